@@ -1,0 +1,28 @@
+-- What a `return` has to show, by the kind of its answer.
+use mathlib.Core.Path.{_≡_, refl, sym, subst}
+use Rattle.answers.specs.Reply.{Reply, refused, Refused}
+use Rattle.answers.specs.Contract.{Kind, Step, Makes, Does, Meets, Answers, refusing}
+
+module _ (k : Kind) (t : k .Memory) where
+  -- the test failed
+  pub meets-bad : (want : Step (k .Plain)) → (k .Sound t → ⊥) → Meets k t t (refused 1) want
+  meets-bad want f = record { bad = λ _. (f, refl); good = λ g. absurd (g refl) }
+
+  -- the test held, and the inner call did the rest
+  pub meets : (u : k .Memory) (got : Reply) (want : Step (k .Plain)) → k .Sound t → Does k t u got want → Meets k t u got want
+  meets u got want s d = record { bad = λ e. absurd (d .fine e); good = λ _. (s, d) }
+
+  -- a sound table, read
+  pub answers : (got want : Reply) → k .Sound t → (got ≡ refused 1 → ⊥) → got ≡ want → Answers k t got want
+  answers got want s f e =
+      meets t got (record { reply = want; after = k .view t }) s
+      (record { fine = f; makes = record { reply = e; after = refl; sound = s }; kept = λ _. refl })
+
+  -- a sound table, handed back with any answer but 1
+  pub does-keep : (got : Reply) (want : Step (k .Plain)) → k .Sound t → (got ≡ refused 1 → ⊥) → got ≡ want .reply → k .view t ≡ want .after → Does k t t got want
+  does-keep got want s f e a = record { fine = f; makes = record { reply = e; after = a; sound = s }; kept = λ _. refl }
+
+  -- a changed table, with an answer that is no refusal
+  pub does : (u : k .Memory) (got : Reply) (want : Step (k .Plain)) → (Refused got → ⊥) → got ≡ want .reply → k .view u ≡ want .after → k .Sound u → Does k t u got want
+  does u got want f e a s =
+      record { fine = λ z. f (subst Refused (sym z) tt); makes = record { reply = e; after = a; sound = s }; kept = λ r. absurd (f r) }

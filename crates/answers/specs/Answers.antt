@@ -1,0 +1,46 @@
+-- Which reply each answer of the code is: document 01's number and values.
+use mathlib.Core.Option.{some, none}
+use Prim.Native.Nat.{ℕ}
+use Rattle.answers.specs.declared.Refusal.{Refusal}
+use Rattle.answers.specs.declared.Refusal.the-variants.{BadTable, BadSize, NotStarted, Again, BadCpu, CpuOff, ShortOut, BadTask, CookieBusy, TaskBusy, Full, BadLine, TooLong}
+use Rattle.answers.specs.declared.Ack as ack
+use Rattle.answers.specs.declared.Ack.the-variants as ack-of
+use Rattle.answers.specs.declared.Told as told-answer
+use Rattle.answers.specs.declared.Told.the-variants as told-of
+use Rattle.answers.specs.declared.Count as count
+use Rattle.answers.specs.declared.Count.the-variants as count-of
+use Rattle.answers.specs.declared.Named as name
+use Rattle.answers.specs.declared.Named.the-variants as name-of
+use Rattle.answers.specs.Reply.{Reply, refused, done, told, number, named}
+
+abbrev pub refusalNo : Refusal → ℕ
+refusalNo BadTable = 1
+refusalNo BadSize = 2
+refusalNo NotStarted = 3
+refusalNo Again = 4
+refusalNo BadCpu = 5
+refusalNo CpuOff = 6
+refusalNo ShortOut = 7
+refusalNo BadTask = 8
+refusalNo CookieBusy = 9
+refusalNo TaskBusy = 10
+refusalNo Full = 11
+refusalNo BadLine = 12
+refusalNo TooLong = 13
+
+abbrev pub ackReply : ack.Ack → Reply
+ackReply ack-of.Done = done
+ackReply (ack-of.Refused r) = refused (refusalNo r)
+
+abbrev pub toldReply : told-answer.Told → Reply
+toldReply (told-of.Is b) = told b
+toldReply (told-of.Refused r) = refused (refusalNo r)
+
+abbrev pub countReply : count.Count → Reply
+countReply (count-of.Is n) = number n
+countReply (count-of.Refused r) = refused (refusalNo r)
+
+abbrev pub namedReply : name.Named → Reply
+namedReply (name-of.Id t) = named (some t)
+namedReply name-of.Nothing = named none
+namedReply (name-of.Refused r) = refused (refusalNo r)

@@ -1,0 +1,4 @@
+pub mod Reply
+pub mod Answers
+pub mod Contract
+pub mod Run

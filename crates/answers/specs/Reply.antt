@@ -1,0 +1,31 @@
+-- What any call can answer, on paper. Document 01, "Numbers a call can refuse with": a refusal is its number.
+use mathlib.Core.Bool.{Bool}
+use mathlib.Core.Option.{Option}
+use Prim.Native.Nat.{ℕ}
+use Rattle.ids.specs.declared.TaskId.{TaskId}
+
+pub data Reply : Type 0 where
+  refused : ℕ → Reply
+  -- the call gives nothing
+  done : Reply
+  -- true or false
+  told : Bool → Reply
+  -- a count, a size, a counter
+  number : ℕ → Reply
+  -- a task, or none
+  named : Option TaskId → Reply
+  -- a token, a CPU, a state, or none
+  value : Option ℕ → Reply
+  -- a switch: keep running, or from whom to whom, and whose stack to release
+  stays : Reply
+  switched : TaskId → TaskId → Option TaskId → Reply
+
+abbrev pub Refused : Reply → Type 0
+Refused (refused n) = Unit {0}
+Refused done = ⊥
+Refused (told b) = ⊥
+Refused (number n) = ⊥
+Refused (named i) = ⊥
+Refused (value v) = ⊥
+Refused stays = ⊥
+Refused (switched a b c) = ⊥

@@ -1,0 +1,28 @@
+// Runs the calls at their edges, a line for each group. Lines that begin with `ours` are of refusals that the customer's Rust
+// does not have; every other line is also what the Rust writes.
+mod parks;
+mod ring;
+mod say;
+mod waits;
+mod wakes;
+
+fn main() {
+    ring::packing();
+    ring::of_one();
+    ring::of_three();
+    ring::of_64();
+    ring::sizes();
+    ring::broken();
+    wakes::every_size();
+    wakes::wrap();
+    wakes::sizes();
+    wakes::broken();
+    waits::arming();
+    waits::filling();
+    waits::marking();
+    waits::broken();
+    parks::polling();
+    parks::filling();
+    parks::outputs();
+    parks::broken();
+}

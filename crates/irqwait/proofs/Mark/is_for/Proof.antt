@@ -1,0 +1,25 @@
+-- A mark is a task's where it is set with that task's whole id.
+use mathlib.Core.Path.{_∙_}
+use borrow.Author.Needs.{needs}
+use borrow.Author.Tests.{not-true, not-false}
+use Rattle.irqwait.specs.Waits.{isMark}
+use Rattle.irqwait.proofs.Laws.{mark-set, mark-clear}
+use Rattle.irqwait.proofs.Places.{taken-on, taken-off}
+use Rattle.irqwait.proofs.Mark.is_for.Statement.{statement}
+use Rattle.irqwait.proofs.Mark.is_for.Tie as tie
+
+returns : tie.Need-returns
+returns c =
+    let a = c .before .before .args in
+    taken-off (isMark (a .id)) _ (mark-clear (a .self) (not-true _ (c .if1 .taken)))
+
+same-requires : tie.Need-same-requires
+same-requires c κs = search needs
+
+returns-2 : tie.Need-returns-2
+returns-2 c =
+    let a = c .before .before .before .before .args in
+    c .same .ensures ∙ taken-on (isMark (a .id)) _ (mark-set (a .self) (not-false _ (c .before .before .if1 .left)))
+
+pub is-for-spec : {M : Type 1} → statement M
+is-for-spec = tie.close (tie.spec returns same-requires returns-2)

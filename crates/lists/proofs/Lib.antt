@@ -1,0 +1,4 @@
+pub mod Basics
+pub mod TabLaws
+pub mod SearchLaws
+pub mod EntriesLaws

@@ -1,0 +1,4 @@
+pub mod Tells
+pub mod Tab
+pub mod Search
+pub mod Entries

@@ -1,0 +1,5 @@
+pub mod Puts
+pub mod ViewLaws
+pub mod RingStores
+pub mod FreshLaws
+pub mod PartLaws

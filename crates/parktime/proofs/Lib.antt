@@ -1,0 +1,5 @@
+pub mod Cases
+pub mod Keeps
+pub mod Laws
+pub mod PollLaws
+pub mod Rows

@@ -1,0 +1,3 @@
+pub mod Deadlines
+pub mod Steps
+pub mod Calls

@@ -1,0 +1,147 @@
+-- The scans over the slots of a table, turn by turn.
+use mathlib.Core.Path.{_≡_, refl, sym, _∙_, ap}
+use mathlib.Core.Bool.{Bool, true, false, _&&_, not}
+use mathlib.Core.List.{List}
+use Prim.Native.Nat.{ℕ, _+_, _≤_, _<_}
+use native.Mathlib.Omega.{arith}
+use borrow.Author.Tests.{lt-ltb, le-ltb, eq-eqb, ne-eqb, ltb-true}
+use lib.Dec.{eqb, ltb}
+use lib.ListN.{length, getD, take}
+use lib.Seq.{getD-take, length-take-le}
+use Rattle.lists.specs.Tab.{tab}
+use Rattle.lists.specs.Search.{firstAt, countOf, anyOf}
+use Rattle.lists.proofs.TabLaws.{length-tab, getD-tab}
+use Rattle.lists.proofs.SearchLaws.{Passed, passed-none, passed-more, passed-hit, passed-all, Counting, counting-none, counting-hit, counting-pass, counting-all, any-hit, any-none}
+use Rattle.lists.proofs.Basics.{below-next, both-true}
+use Rattle.ids.specs.declared.TaskId.{TaskId}
+use Rattle.ids.specs.Id.{sameId, idle}
+use Rattle.memory.specs.Parts.{knownIn, idleIn, stealeableIn, vacantIn, freeIn}
+
+-- KNOWN
+
+pub known-far : (epochs : List ℕ) (n : ℕ) (id : TaskId) → n ≤ id .slot → false ≡ knownIn epochs n id
+known-far epochs n id h = rw (le-ltb (id .slot) n h)
+
+pub known-near : (epochs : List ℕ) (n : ℕ) (id : TaskId) → id .slot < n → eqb (getD epochs (id .slot) 0) (id .epoch) ≡ knownIn epochs n id
+known-near epochs n id h = rw (lt-ltb (id .slot) n h)
+
+-- STEALEABLE
+
+module _ (epochs : List ℕ) (marks : List Bool) (n : ℕ) (idles : List TaskId) (id : TaskId) where
+  pub loot-unknown : knownIn epochs n id ≡ false → false ≡ stealeableIn epochs marks n idles id
+  loot-unknown h = rw h
+
+  pub known-slot : knownIn epochs n id ≡ true → id .slot < n
+  known-slot h = ltb-true (id .slot) n (both-true (ltb (id .slot) n) (eqb (getD epochs (id .slot) 0) (id .epoch)) h .0)
+
+  pub loot-unmarked : knownIn epochs n id ≡ true → getD marks (id .slot) false ≡ false → false ≡ stealeableIn epochs marks n idles id
+  loot-unmarked h m = rw (h, m)
+
+  pub loot-is : (r : Bool) → knownIn epochs n id ≡ true → getD marks (id .slot) false ≡ true → r ≡ idleIn idles id → not r ≡ stealeableIn epochs marks n idles id
+  loot-is r h m e = rw (h, m, e)
+
+-- IDLE
+
+-- none of the first c is the one
+pub NoneOf : List TaskId → TaskId → ℕ → Type 0
+NoneOf idles id c = (k : ℕ) → k < c → sameId id (getD idles k idle) ≡ false
+
+module _ (idles : List TaskId) (id : TaskId) where
+  pub none-start : NoneOf idles id 0
+  unfolding NoneOf
+  none-start k h = absurd (omega arith)
+
+  pub none-more : (c : ℕ) → NoneOf idles id c → sameId id (getD idles c idle) ≡ false → NoneOf idles id (c + 1)
+  unfolding NoneOf
+  none-more c f h k l = below-next (λ j. sameId id (getD idles j idle) ≡ false) c k l (f k) h
+
+  pub idle-hit : (c : ℕ) → c < length idles → sameId id (getD idles c idle) ≡ true → true ≡ idleIn idles id
+  unfolding idleIn
+  idle-hit c h e = sym (any-hit (λ i. sameId id i) idles c idle h e)
+
+  pub idle-none : (c : ℕ) → length idles ≤ c → NoneOf idles id c → false ≡ idleIn idles id
+  unfolding idleIn NoneOf
+  idle-none c h f = sym (any-none (λ i. sameId id i) idles idle (λ i l. f i (omega arith)))
+
+-- FREE SLOTS
+
+module _ (states : List ℕ) (parked : Bool) (at n : ℕ) where
+  -- none of the first s slots is free
+  pub Taken : ℕ → Type 0
+  Taken s = Passed (vacantIn states parked at) (tab n (λ s. s)) s
+
+  long : length (tab n (λ s. s)) ≡ n
+  long = length-tab n (λ s. s)
+
+  pub taken-none : Taken 0
+  unfolding Taken
+  taken-none = passed-none (vacantIn states parked at) (tab n (λ s. s))
+
+  module _ (s : ℕ) (p : Taken s) (h : s < n) where
+    is-s : getD (tab n (λ s. s)) s 0 ≡ s
+    is-s = getD-tab n (λ s. s) s 0 h
+
+    pub taken-more : vacantIn states parked at s ≡ false → Taken (s + 1)
+    unfolding Taken
+    taken-more e = passed-more (vacantIn states parked at) (tab n (λ s. s)) s 0 p (omega (arith, long)) (ap (vacantIn states parked at) is-s ∙ e)
+
+    pub free-is : vacantIn states parked at s ≡ true → s ≡ freeIn states parked at n
+    unfolding Taken freeIn
+    free-is e = passed-hit (vacantIn states parked at) (tab n (λ s. s)) s 0 p (omega (arith, long)) (ap (vacantIn states parked at) is-s ∙ e)
+
+  pub free-none : (s : ℕ) → Taken s → n ≤ s → s ≡ freeIn states parked at n
+  unfolding Taken freeIn
+  free-none s p h = passed-all (vacantIn states parked at) (tab n (λ s. s)) s p (omega (arith, long))
+
+  -- the tests of one slot
+  module _ (s : ℕ) where
+    pub vacant-not : (getD states s 0 ≡ 0 → ⊥) → vacantIn states parked at s ≡ false
+    vacant-not h = rw (ne-eqb (getD states s 0) 0 h)
+
+    pub vacant-free : getD states s 0 ≡ 0 → parked ≡ false → vacantIn states parked at s ≡ true
+    vacant-free h f = rw (eq-eqb (getD states s 0) 0 h, f)
+
+    pub vacant-other : getD states s 0 ≡ 0 → (at ≡ s → ⊥) → vacantIn states parked at s ≡ true
+    vacant-other h f = rw (eq-eqb (getD states s 0) 0 h, ne-eqb at s f) (go parked)
+      where
+        go : (b : Bool) → not (b && false) ≡ true
+        go true = refl
+        go false = refl
+
+    pub vacant-parked : getD states s 0 ≡ 0 → parked ≡ true → at ≡ s → vacantIn states parked at s ≡ false
+    vacant-parked h f e = rw (eq-eqb (getD states s 0) 0 h, f, eq-eqb at s e)
+
+-- COUNTS
+
+module _ (p : ℕ → Bool) (states : List ℕ) (n : ℕ) where
+  -- k of the first s slots
+  pub Counted : ℕ → ℕ → Type 0
+  Counted s k = Counting p (take n states) s k
+
+  pub counted-most : (s k : ℕ) → Counted s k → k ≤ s
+  unfolding Counted
+  counted-most s k c = c .most
+
+  pub counted-none : Counted 0 0
+  unfolding Counted
+  counted-none = counting-none p (take n states)
+
+  module _ (fits : n ≤ length states) where
+    cut : length (take n states) ≡ n
+    cut = length-take-le n states fits
+
+    module _ (s k : ℕ) (c : Counted s k) (h : s < n) where
+      at-s : getD (take n states) s 0 ≡ getD states s 0
+      at-s = getD-take n states s 0 h
+
+      pub counted-hit : p (getD states s 0) ≡ true → Counted (s + 1) (k + 1)
+      unfolding Counted
+      counted-hit e = counting-hit p (take n states) s k 0 c (omega (arith, cut)) (ap p at-s ∙ e)
+
+      pub counted-pass : p (getD states s 0) ≡ false → Counted (s + 1) k
+      unfolding Counted
+      counted-pass e = counting-pass p (take n states) s k 0 c (omega (arith, cut)) (ap p at-s ∙ e)
+
+    pub counted-all : (s k : ℕ) → Counted s k → n ≤ s → k ≡ countOf p (take n states)
+    unfolding Counted
+    counted-all s k c h = counting-all p (take n states) s k c (omega (arith, cut))

@@ -1,0 +1,11 @@
+pub mod Common
+pub mod Wakes
+pub mod Admits
+pub mod Starts
+pub mod Marks
+pub mod Scans
+pub mod Pulls
+pub mod Tries
+pub mod Switches
+pub mod Turns
+pub mod Decides

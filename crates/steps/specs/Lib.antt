@@ -1,0 +1,2 @@
+pub mod Stealing
+pub mod Switching

@@ -1,0 +1,4 @@
+pub mod Queue
+pub mod Steps
+pub mod Calls
+pub mod History
