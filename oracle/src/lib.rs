@@ -1,4 +1,6 @@
 //! The customer's modules, as published, for our comparisons.
 #![allow(dead_code, clippy::all)]
 
+pub mod plain;
+
 include!(concat!(env!("OUT_DIR"), "/harbor.rs"));

@@ -1,7 +1,7 @@
 -- What a `return` has to show, by the kind of its answer.
 use mathlib.Core.Path.{_≡_, refl, sym, subst}
 use Rattle.answers.specs.Reply.{Reply, refused, Refused}
-use Rattle.answers.specs.Contract.{Kind, Step, Makes, Does, Meets, Answers, refusing}
+use Rattle.answers.specs.Contract.{Kind, Step, Makes, Does, Reads, Meets, Answers, refusing}
 
 module _ (k : Kind) (t : k .Memory) where
   -- the test failed
@@ -13,10 +13,11 @@ module _ (k : Kind) (t : k .Memory) where
   meets u got want s d = record { bad = λ e. absurd (d .fine e); good = λ _. (s, d) }
 
   -- a sound table, read
+  pub reads : (got want : Reply) → k .Sound t → (got ≡ refused 1 → ⊥) → got ≡ want → Reads k t got want
+  reads got want s f e = record { fine = f; makes = record { reply = e; after = refl; sound = s }; kept = λ _. refl }
+
   pub answers : (got want : Reply) → k .Sound t → (got ≡ refused 1 → ⊥) → got ≡ want → Answers k t got want
-  answers got want s f e =
-      meets t got (record { reply = want; after = k .view t }) s
-      (record { fine = f; makes = record { reply = e; after = refl; sound = s }; kept = λ _. refl })
+  answers got want s f e = meets t got (record { reply = want; after = k .view t }) s (reads got want s f e)
 
   -- a sound table, handed back with any answer but 1
   pub does-keep : (got : Reply) (want : Step (k .Plain)) → k .Sound t → (got ≡ refused 1 → ⊥) → got ≡ want .reply → k .view t ≡ want .after → Does k t t got want

@@ -11,7 +11,13 @@ use Rattle.answers.specs.declared.Count as count
 use Rattle.answers.specs.declared.Count.the-variants as count-of
 use Rattle.answers.specs.declared.Named as name
 use Rattle.answers.specs.declared.Named.the-variants as name-of
-use Rattle.answers.specs.Reply.{Reply, refused, done, told, number, named}
+use Rattle.answers.specs.declared.State.{State}
+use Rattle.answers.specs.declared.State.the-variants.{Empty, Ready, Running, Blocked}
+use Rattle.answers.specs.declared.Stated as stated
+use Rattle.answers.specs.declared.Stated.the-variants as stated-of
+use Rattle.answers.specs.declared.Homed as homed
+use Rattle.answers.specs.declared.Homed.the-variants as homed-of
+use Rattle.answers.specs.Reply.{Reply, refused, done, told, number, named, value}
 
 abbrev pub refusalNo : Refusal → ℕ
 refusalNo BadTable = 1
@@ -44,3 +50,20 @@ abbrev pub namedReply : name.Named → Reply
 namedReply (name-of.Id t) = named (some t)
 namedReply name-of.Nothing = named none
 namedReply (name-of.Refused r) = refused (refusalNo r)
+
+-- the code of a state
+abbrev pub stateNo : State → ℕ
+stateNo Empty = 0
+stateNo Ready = 1
+stateNo Running = 2
+stateNo Blocked = 3
+
+abbrev pub statedReply : stated.Stated → Reply
+statedReply (stated-of.Is s) = value (some (stateNo s))
+statedReply stated-of.Nothing = value none
+statedReply (stated-of.Refused r) = refused (refusalNo r)
+
+abbrev pub homedReply : homed.Homed → Reply
+homedReply (homed-of.Cpu c) = value (some c)
+homedReply homed-of.Nothing = value none
+homedReply (homed-of.Refused r) = refused (refusalNo r)

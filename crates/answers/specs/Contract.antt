@@ -35,12 +35,16 @@ pub record Does (k : Kind) (t u : k .Memory) (got : Reply) (want : Step (k .Plai
   pub makes : Makes k u got want
   pub kept : Refused got → u ≡ t
 
+-- an inner call that only reads: the table stays with the caller
+abbrev pub Reads : (k : Kind) → k .Memory → Reply → Reply → Type 0
+Reads k t got want = Does k t t got (record { reply = want; after = k .view t })
+
 -- a call of the product, on any table whatever: it answers 1 exactly when the table is not sound
 pub record Meets (k : Kind) (t u : k .Memory) (got : Reply) (want : Step (k .Plain)) : Type 0 where
   pub bad : got ≡ refused 1 → (k .Sound t → ⊥) × (u ≡ t)
   pub good : (got ≡ refused 1 → ⊥) → k .Sound t × Does k t u got want
 
--- a call that only reads: the table stays with the caller
+-- likewise for a call that only reads
 abbrev pub Answers : (k : Kind) → k .Memory → Reply → Reply → Type 0
 Answers k t got want = Meets k t t got (record { reply = want; after = k .view t })
 

@@ -67,3 +67,25 @@ pub enum Named {
     Nothing,
     Refused(Refusal),
 }
+
+// What a slot of a task table is.
+pub enum State {
+    Empty,
+    Ready,
+    Running,
+    Blocked,
+}
+
+// A state, or none.
+pub enum Stated {
+    Is(State),
+    Nothing,
+    Refused(Refusal),
+}
+
+// A CPU, or none.
+pub enum Homed {
+    Cpu(u8),
+    Nothing,
+    Refused(Refusal),
+}

@@ -1,10 +1,12 @@
 // Runs the calls at their edges, a line for each group. Lines that begin with `ours` are of refusals that the customer's Rust
 // does not have; every other line is also what the Rust writes.
-mod parks;
-mod ring;
-mod say;
-mod waits;
-mod wakes;
+use leaf_cases::life;
+use leaf_cases::parks;
+use leaf_cases::ring;
+use leaf_cases::waits;
+use leaf_cases::wakes;
+use table_cases::damage;
+use table_cases::table;
 
 fn main() {
     ring::packing();
@@ -25,4 +27,11 @@ fn main() {
     parks::filling();
     parks::outputs();
     parks::broken();
+    table::rules();
+    table::refusals();
+    table::cpus();
+    table::epochs();
+    damage::started();
+    damage::fresh();
+    life::every_state();
 }

@@ -1,12 +1,14 @@
 -- Every call keeps a table sound.
 use mathlib.Core.Path.{_≡_, refl}
 use mathlib.Core.Bool.{Bool, true, false, _&&_, not}
+use mathlib.Core.List.{List, [], _∷_}
 use mathlib.Core.Option.{none}
 use Prim.Native.Nat.{_<_}
 use native.Mathlib.Omega.{arith}
 use borrow.Author.Tests.{not-true}
 use Rattle.lists.proofs.Basics.{both-true}
 use Rattle.ids.specs.declared.TaskId.{TaskId}
+use Rattle.answers.specs.Run.{left}
 use Rattle.model.specs.Model.{Model, CPUS, known, isIdle, withMark, withParked}
 use Rattle.model.specs.Sound.{Shape, Live, Sound}
 use Rattle.model.specs.Steps.{markStep, collectStep}
@@ -76,3 +78,9 @@ step-sound m blocked s = s
 step-sound m blockEvents s = s
 step-sound m liveCount s = s
 step-sound m peak s = s
+
+-- whatever is called
+pub calls-sound : (m : Model) (ks : List Call) → Sound m → Sound (left step m ks)
+unfolding left
+calls-sound m [] s = s
+calls-sound m (k ∷ ks) s = calls-sound (step m k .after) ks (step-sound m k s)

@@ -16,3 +16,4 @@ pub mod Literal
 pub mod Robbed
 pub mod StealLaws
 pub mod SwitchLaws
+pub mod SoundRows

@@ -7,10 +7,6 @@ use native.Mathlib.Omega.{arith}
 use Rattle.lists.proofs.Basics.{lt-or-ge}
 use Rattle.runqueue.specs.Ring.{placed}
 
-pub placed-is : (n x : ℕ) → placed n x ≡ x % n
-unfolding placed
-placed-is n x = refl
-
 pub placed-low : (n x : ℕ) → x < n → placed n x ≡ x
 unfolding placed
 placed-low n x h = mod-eq-of-lt h

@@ -41,12 +41,16 @@ pub enum Requeue {
     Nothing,
 }
 
-// Where a count of places from the start of a ring of n lies. Every wrap of every ring is computed here.
+// Where a count of places from the start of a ring of n lies. Every wrap of every ring is computed here; counts stay below
+// 2n, so a subtraction does what a division would.
 pub fn place(n: usize, x: usize) -> usize
     requires { ⌜ x < n + n ⌝ }
     ensures { λ r. ⌜ (r ≡ placed n x) × (r < n) ⌝ }
 {
-    x % n
+    if x < n {
+        return x;
+    }
+    x - n
 }
 
 // The test of a ring's numbers: its entries may be anything.

@@ -1,22 +1,34 @@
 -- What every call on a sound task table starts from, and how it ends.
 use mathlib.Core.Path.{_≡_, refl, sym, _∙_, ap, subst}
 use mathlib.Core.Bool.{Bool, true, false, not}
+use mathlib.Core.List.{List, [], _∷_}
 use Prim.Native.Nat.{ℕ, _≤_, _<_}
 use native.Mathlib.Omega.{arith}
 use borrow.Author.Tests.{eq-eqb, ne-eqb}
 use lib.Dec.{eqb}
 use lib.ListN.{length, getD}
+use Rattle.ids.specs.declared.TaskId.{TaskId}
 use Rattle.answers.specs.Reply.{Reply, refused, Refused}
 use Rattle.answers.specs.Contract.{Step, Does, refusing}
 use Rattle.answers.proofs.Returns.{does, does-keep}
 use Rattle.model.specs.Model.{Model, MOST, CPUS, EMPTY, stateOf, queueOf, started, fresh}
 use Rattle.model.specs.Steps.{whenStarted}
+use Rattle.model.specs.Switch.{isNil}
 use Rattle.model.specs.Sound as plain
 use Rattle.model.proofs.Counting.{room}
 use Rattle.model.proofs.Facts.{live, unstarted}
 use Rattle.memory.specs.declared.Tasks.{Tasks}
 use Rattle.memory.specs.View.{view, lenOf, Rep, Sound, table}
 use Rattle.memory.proofs.ViewLaws.{view-n, view-state, view-len}
+
+-- a queue by its length
+pub nil-of : (l : List TaskId) → length l ≡ 0 → isNil l ≡ true
+nil-of [] h = refl
+nil-of (x ∷ l) h = absurd (omega arith)
+
+pub not-nil : (l : List TaskId) → (length l ≡ 0 → ⊥) → isNil l ≡ false
+not-nil [] h = absurd (h refl)
+not-nil (x ∷ l) h = refl
 
 module _ (t : Tasks) (w : Sound t) where
   first-state : stateOf (view t) 0 ≡ getD (t .states) 0 0

@@ -22,7 +22,7 @@ use Rattle.memory.proofs.Puts.{putHead, putHome, putTail}
 use Rattle.memory.proofs.ViewLaws.{view-n, view-ncpus, view-len, store-home, rep-home}
 use Rattle.memory.proofs.RingStores.{ringIn, headIn, restIn, view-split, store-head, rep-head, store-tail, rep-tail}
 use Rattle.steps.specs.Stealing.{turned, Scans, Pulls}
-use Rattle.steps.proofs.Common.{lives, has-room}
+use Rattle.steps.proofs.Common.{nil-of, lives, has-room}
 use Rattle.steps.proofs.Scans.{turned-all}
 
 -- a queue stored again, and a queue stored as it is
@@ -39,10 +39,6 @@ withQueue-same m p =
 
 length-turned : (j : ℕ) (q : List TaskId) → j ≤ length q → length (turned j q) ≡ length q
 length-turned j q h = simp (length-append, length-take, length-drop) (omega arith)
-
-nil-of : (l : List TaskId) → length l ≡ 0 → isNil l ≡ true
-nil-of [] h = refl
-nil-of (x ∷ l) h = absurd (omega arith)
 
 module _ (t : Tasks) (c p : ℕ) (w : Sound t) (on : started (view t) ≡ true) (hc : c < CPUS) (empty : lenOf t c ≡ 0) (ep : p ≡ (c + 1) % CPUS) (u : Tasks) (j : ℕ) (s : Scans t p u j) where
   m : Model

@@ -1,0 +1,11 @@
+pub mod WalkLaws
+pub mod QueueLaws
+pub mod CpuLaws
+pub mod SlotLaws
+pub mod ReadLaws
+pub mod LiveLaws
+pub mod FreshLaws
+pub mod SoundLaws
+pub mod Returns
+pub mod LoopLaws
+pub mod WholeReturns

@@ -1,0 +1,100 @@
+-- The loop counts to the length of the queue.
+use Prim.Native.Nat.{_+_, _≤_, _-_, _<_}
+use borrow.Author.Needs.{needs}
+use native.Mathlib.Omega.{arith}
+use lib.ListN.{length}
+use Rattle.table_cases.proofs.table.queue.Statement.{statement}
+use Rattle.table_cases.proofs.table.queue.Tie as tie
+
+abbrev Inv-loop : tie.InvT-loop
+Inv-loop a t c n head len j₀ j = j ≤ len
+
+abbrev μ-loop : tie.MeasureT-loop
+μ-loop a t c n head len j₀ j = len - j
+
+mul-head : tie.Need-mul-head Inv-loop μ-loop
+mul-head c = search needs
+
+element-copy-out-head : tie.Need-element-copy-out-head Inv-loop μ-loop
+element-copy-out-head c = search needs
+
+mul-len : tie.Need-mul-len Inv-loop μ-loop
+mul-len c = search needs
+
+element-copy-out-len : tie.Need-element-copy-out-len Inv-loop μ-loop
+element-copy-out-len c = search needs
+
+loop-holds : tie.Need-loop-holds Inv-loop μ-loop
+loop-holds c = search needs
+
+add-spot : tie.Need-add-spot Inv-loop μ-loop
+add-spot c = search needs
+
+spot-requires : tie.Need-spot-requires Inv-loop μ-loop
+spot-requires c κs = search needs
+
+mul-t22 : tie.Need-mul-t22 Inv-loop μ-loop
+mul-t22 c = search needs
+
+element-copy-out-t25 : tie.Need-element-copy-out-t25 Inv-loop μ-loop
+element-copy-out-t25 c = search needs
+
+mul-t26 : tie.Need-mul-t26 Inv-loop μ-loop
+mul-t26 c = search needs
+
+element-copy-out-t29 : tie.Need-element-copy-out-t29 Inv-loop μ-loop
+element-copy-out-t29 c = search needs
+
+id-requires : tie.Need-id-requires Inv-loop μ-loop
+id-requires c κs = search needs
+
+add-j : tie.Need-add-j Inv-loop μ-loop
+add-j c = search needs
+
+loop-less : tie.Need-loop-less Inv-loop μ-loop
+loop-less c = search needs
+
+loop-again : tie.Need-loop-again Inv-loop μ-loop
+loop-again c = search needs
+
+returns : tie.Need-returns Inv-loop μ-loop
+returns c = search needs
+
+returns-2 : tie.Need-returns-2 Inv-loop μ-loop
+returns-2 c = search needs
+
+returns-3 : tie.Need-returns-3 Inv-loop μ-loop
+returns-3 c = search needs
+
+returns-4 : tie.Need-returns-4 Inv-loop μ-loop
+returns-4 c = search needs
+
+returns-5 : tie.Need-returns-5 Inv-loop μ-loop
+returns-5 c = search needs
+
+pub queue-spec : {M : Type 1} → statement M
+queue-spec =
+    tie.close
+    (tie.spec
+    Inv-loop
+    μ-loop
+    mul-head
+    element-copy-out-head
+    mul-len
+    element-copy-out-len
+    loop-holds
+    add-spot
+    spot-requires
+    mul-t22
+    element-copy-out-t25
+    mul-t26
+    element-copy-out-t29
+    id-requires
+    add-j
+    loop-less
+    loop-again
+    returns
+    returns-2
+    returns-3
+    returns-4
+    returns-5)
