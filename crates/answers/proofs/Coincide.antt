@@ -1,6 +1,6 @@
 -- Document 01, "What the contracts have to nail": any two outcomes that a contract admits coincide. Proved once, for
 -- every kind of table and every call, since every contract has one of these three shapes.
-use mathlib.Core.Path.{_≡_, refl, sym, _∙_, ap}
+use mathlib.Core.Path.{_≡_, sym, _∙_, ap}
 use Prim.Native.Nat.{ℕ}
 use native.Mathlib.Decide.{ℕ-discrete}
 use native.Mathlib.Omega.{arith}
@@ -40,6 +40,10 @@ module _ (k : Kind) where
         after = m .makes .after ∙ sym (n .makes .after);
         whole = λ r. m .kept r ∙ sym (n .kept (rw e at r));
       }
+
+  -- on a sound table a call of the product does what its inner call does
+  pub meets-does : (t u : k .Memory) (got : Reply) (want : Step (k .Plain)) → k .Sound t → Meets k t u got want → Does k t u got want
+  meets-does t u got want s m = m .good (λ e. m .bad e .0 s) .1
 
   pub coincide : (t u v : k .Memory) (a b : Reply) (want : Step (k .Plain)) → Meets k t u a want → Meets k t v b want → Same k u v a b
   coincide t u v a b want m n = go (is-bad a) (is-bad b)

@@ -1,7 +1,7 @@
 -- What a `return` has to show, by the kind of its answer.
 use mathlib.Core.Path.{_≡_, refl, sym, subst}
 use Rattle.answers.specs.Reply.{Reply, refused, Refused}
-use Rattle.answers.specs.Contract.{Kind, Step, Makes, Does, Reads, Meets, Answers, refusing}
+use Rattle.answers.specs.Contract.{Kind, Step, Does, Reads, Meets, Answers}
 
 module _ (k : Kind) (t : k .Memory) where
   -- the test failed

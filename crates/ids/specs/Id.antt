@@ -1,6 +1,6 @@
 -- Document 01, "Task ids": an id is slot and epoch, 16 bits each; raw = epoch x 65,536 + slot.
 use mathlib.Core.Bool.{Bool, _&&_}
-use Prim.Native.Nat.{ℕ, _+_, _*_, _/_, _%_, _^_}
+use Prim.Native.Nat.{ℕ, _+_, _*_, _/_, _%_}
 use lib.Dec.{eqb}
 use Rattle.ids.specs.declared.TaskId.{TaskId}
 

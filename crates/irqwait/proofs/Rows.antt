@@ -1,4 +1,4 @@
--- Document 01's case A9 and its rules of the wait table, computed on the model.
+-- Document 01's rules of the wait table, computed on the model. A9 stands with the bench sheet in the crate `runs`.
 use mathlib.Core.Path.{_≡_, refl}
 use mathlib.Core.Bool.{true, false}
 use mathlib.Core.List.{List, [], _∷_, _++_}
@@ -23,10 +23,6 @@ abbrev pub stands : List Call → ℕ → Option Wait
 stands calls i = getD (left step fresh calls .waiters) i none
 
 -- WHO IS REFUSED
-
-pub A9 : replies step fresh (arm 30 (id 2 0) ∷ arm 31 (id 3 0) ∷ arm 31 (id 2 0) ∷ arm 30 (id 3 0) ∷ []) ≡ done ∷ done ∷ refused 10 ∷ refused 9 ∷ []
-unfolding replies step armStep armBy armAt walk firstAt
-A9 = refl
 
 -- an entry with both: the cookie is tested before the task
 pub cookie-first : replies step fresh (arm 30 (id 2 0) ∷ arm 30 (id 2 0) ∷ []) ≡ done ∷ refused 9 ∷ []

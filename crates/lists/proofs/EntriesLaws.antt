@@ -2,15 +2,14 @@
 use mathlib.Core.Path.{_≡_, refl, sym, _∙_, ap}
 use mathlib.Core.Bool.{Bool, true, false, cond}
 use mathlib.Core.Logic.{_⊎_, inl, inr, ⊎-elim}
-use mathlib.Core.List.{List, [], _∷_, _++_, map, map-append, append-assoc, append-nil}
+use mathlib.Core.List.{List, [], _∷_, _++_, map-append, append-assoc, append-nil}
 use mathlib.Core.Option.{Option, some, none}
-use Prim.Native.Nat.{ℕ, zero, suc, _+_, _<_, _≤_}
+use Prim.Native.Nat.{ℕ, suc, _+_, _<_, _≤_}
 use native.Mathlib.Decide.{ℕ-discrete}
 use native.Mathlib.Numerals.{add-one}
 use native.Mathlib.Omega.{arith}
-use lib.ListN.{length, getD, set, take, drop, replicate, length-set, length-map, length-append, List·getD-map, drop-of-length-le}
+use lib.ListN.{length, getD, set, take, drop, replicate, length-set, length-map, List·getD-map, drop-of-length-le}
 use lib.Seq.{getD-set-same, getD-set-other, take-suc, take-all, drop-cons, set-at, getD-at, length-take-le}
-use Rattle.lists.specs.Search.{firstAt}
 use Rattle.lists.specs.Entries.{free, taken, lowestFree, freed, takenBy, alike, Distinct}
 use Rattle.lists.proofs.Basics.{lt-or-ge, not-both, getD-all}
 use Rattle.lists.proofs.SearchLaws.{first-is}

@@ -2,3 +2,4 @@ pub mod Tells
 pub mod Tab
 pub mod Search
 pub mod Entries
+pub mod Each

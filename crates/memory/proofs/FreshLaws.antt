@@ -1,27 +1,24 @@
 -- A table that has just been made is the model's.
-use mathlib.Core.Path.{_≡_, refl, sym, _∙_, ap}
-use mathlib.Core.Bool.{Bool, false}
-use mathlib.Core.List.{List, [], _∷_}
-use mathlib.Core.Option.{none}
+use mathlib.Core.Path.{_≡_, refl, _∙_, ap}
+use mathlib.Core.Bool.{false}
+use mathlib.Core.List.{_∷_}
 use Prim.Native.Nat.{ℕ, zero, suc, _≤_, _<_, _*_}
 use native.Mathlib.Omega.{arith}
-use lib.ListN.{length, getD, take, replicate, length-replicate, getD-replicate}
+use lib.ListN.{length, take, replicate, length-replicate}
 use borrow.Author.Tests.{le-leb, lt-leb}
 use Rattle.lists.specs.Tab.{tab}
 use Rattle.lists.proofs.Basics.{getD-all}
 use Rattle.lists.proofs.TabLaws.{tab-ext}
-use Rattle.ids.specs.declared.TaskId.{TaskId}
 use Rattle.ids.specs.Id.{idle}
 use Rattle.answers.specs.Reply.{refused, done}
 use Rattle.answers.specs.Contract.{Makes}
-use Rattle.runqueue.specs.Ring.{around, idAt}
+use Rattle.runqueue.specs.Ring.{idAt}
 use Rattle.runqueue.proofs.RingLaws.{around-none}
-use Rattle.model.specs.Model.{Model, Cpu, MOST, CPUS, noCpu, fresh}
+use Rattle.model.specs.Model.{MOST, CPUS, noCpu, fresh}
 use Rattle.model.specs.Steps.{newStep}
-use Rattle.model.specs.Sound as plain
 use Rattle.model.proofs.Claims.{fresh-sound}
 use Rattle.memory.specs.declared.Tasks.{Tasks}
-use Rattle.memory.specs.View.{SPAN, headOf, lenOf, cpuAt, view, RingIs, Rep, Sound, Blank, table}
+use Rattle.memory.specs.View.{SPAN, cpuAt, view, Rep, Sound, Blank, table}
 
 take-replicate : {A : Type 0} (n m : ℕ) (a : A) → n ≤ m → take n (replicate m a) ≡ replicate n a
 take-replicate zero m a h = refl

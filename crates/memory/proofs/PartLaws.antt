@@ -1,23 +1,23 @@
 -- What the code reads off the arrays is what the model reads off the view.
 use mathlib.Core.Path.{_≡_, refl, sym, _∙_, ap, ap₂}
 use mathlib.Core.Logic.{⊎-elim}
-use mathlib.Core.Bool.{Bool, true, false, _&&_, _||_, not, cond, and-true}
-use mathlib.Core.List.{List, [], _∷_}
-use mathlib.Core.Option.{Option, some, none}
+use mathlib.Core.Bool.{Bool, true, false, _&&_, _||_, not, cond}
+use mathlib.Core.List.{List}
+use mathlib.Core.Option.{some, none}
 use Prim.Native.Nat.{ℕ, zero, suc, _≤_, _<_, max, suc-le-suc, zero-le}
 use native.Mathlib.Omega.{arith}
-use borrow.Author.Tests.{le-ltb, lt-ltb}
+use borrow.Author.Tests.{le-ltb}
 use lib.Dec.{eqb, ltb}
-use lib.ListN.{length, getD, take}
+use lib.ListN.{length, getD}
 use lib.Seq.{ext-getD}
 use Rattle.lists.specs.Tab.{tab}
-use Rattle.lists.specs.Search.{firstAt, countOf, anyOf}
+use Rattle.lists.specs.Search.{firstAt, anyOf}
 use Rattle.lists.specs.Entries.{taken}
 use Rattle.lists.proofs.Basics.{lt-or-ge}
 use Rattle.lists.proofs.TabLaws.{length-tab, getD-tab}
 use Rattle.ids.specs.declared.TaskId.{TaskId}
 use Rattle.ids.specs.Id.{sameId, idle}
-use Rattle.model.specs.Model.{Model, Cpu, CPUS, EMPTY, known, isIdle, vacant, freeSlot, occupied, blocked, stateOf, restTo, noted}
+use Rattle.model.specs.Model.{Cpu, CPUS, EMPTY, known, isIdle, vacant, freeSlot, occupied, blocked, restTo, noted}
 use Rattle.model.specs.Switch.{stealeable}
 use Rattle.memory.specs.declared.Tasks.{Tasks}
 use Rattle.memory.specs.View.{cpuAt, view, Rep}

@@ -1,20 +1,19 @@
 -- What a store into a ring is in the model: one more at the tail, the head taken, the head moved to the tail.
-use mathlib.Core.Path.{_≡_, refl, sym, _∙_, ap, ap₂}
+use mathlib.Core.Path.{_≡_, refl, sym, _∙_, ap}
 use mathlib.Core.List.{List, [], _∷_, _++_}
-use Prim.Native.Nat.{ℕ, zero, suc, _+_, _-_, _*_, _≤_, _<_}
-use native.Mathlib.Numerals.{add-one}
+use Prim.Native.Nat.{ℕ, _+_, _-_, _*_, _≤_, _<_}
 use native.Mathlib.Omega.{arith}
 use native.Mathlib.Decide.{ℕ-discrete}
 use lib.ListN.{length, getD, set, length-set}
 use lib.Seq.{getD-set-same, getD-set-other}
 use Rattle.ids.specs.declared.TaskId.{TaskId}
 use Rattle.ids.specs.Id.{idle}
-use Rattle.runqueue.specs.Ring.{placed, around, idAt, queueAt}
-use Rattle.runqueue.proofs.Places.{placed-lt, placed-on}
+use Rattle.runqueue.specs.Ring.{placed, idAt, queueAt}
+use Rattle.runqueue.proofs.Places.{placed-lt}
 use Rattle.runqueue.proofs.RingLaws.{around-pop, queue-else, queue-push}
-use Rattle.model.specs.Model.{Model, Cpu, CPUS, cpuOf, queueOf, withCpu, withQueue, setQueue, pushed}
+use Rattle.model.specs.Model.{Cpu, CPUS, queueOf, withCpu, withQueue, setQueue, pushed}
 use Rattle.memory.specs.declared.Tasks.{Tasks}
-use Rattle.memory.specs.View.{SPAN, headOf, lenOf, cpuAt, view, RingIs, Rep}
+use Rattle.memory.specs.View.{SPAN, headOf, lenOf, cpuAt, view, Rep}
 use Rattle.memory.proofs.Puts.{putRings, putTail, putHead}
 use Rattle.memory.proofs.ViewLaws.{view-cpu, store-at}
 

@@ -1,27 +1,22 @@
 -- Reading through the view, and what a store into what slots have, into what CPUs have and into the rest is in the model.
-use mathlib.Core.Path.{_≡_, refl, sym, _∙_, ap, ap₂}
-use mathlib.Core.Logic.{⊎-elim}
-use mathlib.Core.Bool.{Bool, false, _&&_, cond}
+use mathlib.Core.Path.{_≡_, refl, sym, _∙_, ap}
+use mathlib.Core.Bool.{Bool, false, cond}
 use mathlib.Core.List.{List}
 use mathlib.Core.Option.{some, none}
-use Prim.Native.Nat.{ℕ, _+_, _*_, _≤_, _<_, min}
+use Prim.Native.Nat.{ℕ, _*_, _<_}
 use native.Mathlib.Omega.{arith}
-use native.Mathlib.Decide.{ℕ-discrete}
-use borrow.Author.Tests.{le-ltb}
-use lib.Dec.{eqb, ltb}
-use lib.ListN.{length, getD, set, take, length-set, length-take}
-use lib.Seq.{take-set-lt, getD-take, getD-set-same, getD-set-other, length-take-le}
+use lib.ListN.{length, getD, length-set}
+use lib.Seq.{take-set-lt, getD-take, getD-set-same, getD-set-other}
 use Rattle.lists.specs.Tab.{tab}
-use Rattle.lists.proofs.Basics.{lt-or-ge}
 use Rattle.lists.proofs.TabLaws.{length-tab, getD-tab, tab-set}
 use Rattle.ids.specs.declared.TaskId.{TaskId}
 use Rattle.ids.specs.Id.{idle}
 use Rattle.runqueue.proofs.RingLaws.{around-length}
 use Rattle.runqueue.specs.Ring.{idAt}
-use Rattle.model.specs.Model.{Model, Cpu, MOST, CPUS, noCpu, stateOf, epochOf, homeOf, markOf, cpuOf, queueOf, currentOf, idleOf, known, withState, withEpoch, withHome, withMark, withCpu, restTo}
+use Rattle.model.specs.Model.{Cpu, MOST, CPUS, noCpu, stateOf, epochOf, homeOf, markOf, cpuOf, queueOf, currentOf, idleOf, withState, withEpoch, withHome, withMark, withCpu, restTo}
 use Rattle.memory.specs.declared.Tasks.{Tasks}
-use Rattle.memory.specs.View.{SPAN, headOf, lenOf, cpuAt, view, RingIs, Rep}
-use Rattle.memory.proofs.Puts.{putSlots, putRings, putCpus, putRest, putState, putEpoch, putHome, putMark, putCurrent, putOwner}
+use Rattle.memory.specs.View.{SPAN, headOf, lenOf, cpuAt, view, Rep}
+use Rattle.memory.proofs.Puts.{putSlots, putCpus, putRest, putState, putEpoch, putHome, putMark, putCurrent, putOwner}
 
 -- READING
 

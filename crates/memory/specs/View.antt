@@ -1,12 +1,10 @@
 -- From the table in memory to the model: arrays cut to N, each ring read from head to tail.
 use mathlib.Core.Path.{_≡_}
-use mathlib.Core.Bool.{Bool, false, cond}
-use mathlib.Core.List.{List}
+use mathlib.Core.Bool.{false, cond}
 use mathlib.Core.Option.{some, none}
-use Prim.Native.Nat.{ℕ, _+_, _*_, _≤_, _<_}
+use Prim.Native.Nat.{ℕ, _*_, _≤_, _<_}
 use lib.ListN.{length, getD, take, replicate}
 use Rattle.lists.specs.Tab.{tab}
-use Rattle.ids.specs.declared.TaskId.{TaskId}
 use Rattle.ids.specs.Id.{idle}
 use Rattle.answers.specs.Contract.{Kind}
 use Rattle.runqueue.specs.Ring.{queueAt}

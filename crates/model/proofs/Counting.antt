@@ -11,6 +11,7 @@ use lib.Dec.{eqb}
 use borrow.Author.Tests.{eq-eqb, ne-eqb, eqb-true}
 use Rattle.lists.specs.Search.{countOf}
 use Rattle.lists.proofs.Basics.{both-true}
+use Rattle.lists.proofs.SearchLaws.{count-most}
 use Rattle.ids.specs.declared.TaskId.{TaskId}
 use Rattle.model.specs.Model.{Model, CPUS, EMPTY, READY, stateOf, epochOf, homeOf, queueOf, currentOf, startedOn, occupied, withState, fresh}
 use Rattle.model.specs.Sound.{one-if, occ, Known, AllKnown, readyOn, Shape, Live}
@@ -191,11 +192,6 @@ module _ {A : Type 0} (p : A → Bool) where
       go : (b : Bool) → cond b (suc (countOf p l)) (countOf p l) ≡ one-if b + countOf p l
       go true = omega arith
       go false = omega arith
-
-  pub count-most : (l : List A) → countOf p l ≤ length l
-  unfolding countOf
-  count-most [] = omega arith
-  count-most (x ∷ l) = rw (count-cons x l) (omega (arith, one-if-most (p x), count-most l))
 
   -- one place changed: what it counted is taken, and what it counts now is added
   pub count-set : (l : List A) (i : ℕ) (v d : A) → i < length l → countOf p (set l i v) + one-if (p (getD l i d)) ≡ countOf p l + one-if (p v)

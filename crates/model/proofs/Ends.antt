@@ -16,7 +16,8 @@ use Rattle.lists.specs.Entries.{Holds}
 use Rattle.ids.specs.declared.TaskId.{TaskId}
 use Rattle.model.specs.Model.{Model, CPUS, EMPTY, stateOf, epochOf, queueOf, currentOf, idleOf, restTo, noted}
 use Rattle.model.specs.Sound.{one-if, Shape, Active, ParkedOk}
-use Rattle.model.proofs.Counting.{one-if-most, known-as, known-kept, count-set, count-most}
+use Rattle.lists.proofs.SearchLaws.{count-most}
+use Rattle.model.proofs.Counting.{one-if-most, known-as, known-kept, count-set}
 use Rattle.model.proofs.Core.{lit, lit-by, Core, Awake, Ends, runs-by, rests-by, off-by}
 
 -- the counters and the parked id are no part of the core

@@ -3,7 +3,6 @@ use mathlib.Core.Path.{_≡_, refl}
 use mathlib.Core.Bool.{Bool, true, false, _&&_, not}
 use mathlib.Core.List.{List, [], _∷_}
 use mathlib.Core.Option.{none}
-use Prim.Native.Nat.{_<_}
 use native.Mathlib.Omega.{arith}
 use borrow.Author.Tests.{not-true}
 use Rattle.lists.proofs.Basics.{both-true}
@@ -12,7 +11,7 @@ use Rattle.answers.specs.Run.{left}
 use Rattle.model.specs.Model.{Model, CPUS, known, isIdle, withMark, withParked}
 use Rattle.model.specs.Sound.{Shape, Live, Sound}
 use Rattle.model.specs.Steps.{markStep, collectStep}
-use Rattle.model.specs.Calls.{Call, start, start1, admit, switch, mark, steal, wake, collect, current, idler, ready, started1, state, home, live, stealeable, canSteal, overwrites, blocked, blockEvents, liveCount, peak, step}
+use Rattle.model.specs.Calls.{Call, start, start1, admit, switch, mark, steal, wake, collect, read, step}
 use Rattle.model.proofs.Core.{live-core, live-ends, finish}
 use Rattle.model.proofs.SlotMoves.{mark-core}
 use Rattle.model.proofs.Ends.{core-rest, parked-by}
@@ -64,20 +63,7 @@ step-sound m (mark id b) s = mark-sound m id b s
 step-sound m (steal t) s = trySteal-sound m t s
 step-sound m (wake id) s = wake-sound m id s
 step-sound m collect s = collect-sound m s
-step-sound m (current c) s = s
-step-sound m (idler c) s = s
-step-sound m (ready c) s = s
-step-sound m started1 s = s
-step-sound m (state id) s = s
-step-sound m (home id) s = s
-step-sound m (live i) s = s
-step-sound m (stealeable id) s = s
-step-sound m (canSteal t) s = s
-step-sound m overwrites s = s
-step-sound m blocked s = s
-step-sound m blockEvents s = s
-step-sound m liveCount s = s
-step-sound m peak s = s
+step-sound m (read r) s = s
 
 -- whatever is called
 pub calls-sound : (m : Model) (ks : List Call) → Sound m → Sound (left step m ks)

@@ -17,3 +17,4 @@ pub mod Robbed
 pub mod StealLaws
 pub mod SwitchLaws
 pub mod SoundRows
+pub mod Sizes

@@ -1,5 +1,5 @@
 -- Tables that are sound, and tables that are not: the ends of document 01's clauses.
-use mathlib.Core.Path.{_≡_, refl}
+use mathlib.Core.Path.{refl}
 use mathlib.Core.Bool.{true}
 use mathlib.Core.List.{List, [], _∷_}
 use mathlib.Core.Option.{some, none}

@@ -1,4 +1,4 @@
--- The calls on a task table, for lists of calls: those that change it, and then the reads.
+-- The calls on a task table, for lists of calls: those that change it, and those that only read it.
 use mathlib.Core.Bool.{Bool}
 use Prim.Native.Nat.{ℕ}
 use Rattle.ids.specs.declared.TaskId.{TaskId}
@@ -7,7 +7,40 @@ use Rattle.answers.specs.Contract.{Step}
 use Rattle.model.specs.Model.{Model}
 use Rattle.model.specs.Steps.{startStep, startCpuStep, admitStep, markStep, wakeStep, collectStep}
 use Rattle.model.specs.Switch.{Kind, tryStealStep, switchStep}
-use Rattle.model.specs.Reads as read
+use Rattle.model.specs.Reads.{currentReply, idleReply, readyReply, startedReply, stateReply, homeReply, liveReply, stealeableReply, canStealReply, overwritesReply, blockedReply, blockEventsReply, liveCountReply, peakReply}
+
+pub data Read : Type 0 where
+  current : ℕ → Read
+  idler : ℕ → Read
+  ready : ℕ → Read
+  -- whether CPU 1 is started
+  started1 : Read
+  state : TaskId → Read
+  home : TaskId → Read
+  live : ℕ → Read
+  stealeable : TaskId → Read
+  canSteal : ℕ → Read
+  overwrites : Read
+  blocked : Read
+  blockEvents : Read
+  liveCount : Read
+  peak : Read
+
+unfoldable pub tells : Model → Read → Reply
+tells m (current c) = currentReply m c
+tells m (idler c) = idleReply m c
+tells m (ready c) = readyReply m c
+tells m started1 = startedReply m 1
+tells m (state id) = stateReply m id
+tells m (home id) = homeReply m id
+tells m (live s) = liveReply m s
+tells m (stealeable id) = stealeableReply m id
+tells m (canSteal t) = canStealReply m t
+tells m overwrites = overwritesReply m
+tells m blocked = blockedReply m
+tells m blockEvents = blockEventsReply m
+tells m liveCount = liveCountReply m
+tells m peak = peakReply m
 
 pub data Call : Type 0 where
   start : Call
@@ -19,25 +52,9 @@ pub data Call : Type 0 where
   steal : ℕ → Call
   wake : TaskId → Call
   collect : Call
-  current : ℕ → Call
-  idler : ℕ → Call
-  ready : ℕ → Call
-  started1 : Call
-  state : TaskId → Call
-  home : TaskId → Call
-  live : ℕ → Call
-  stealeable : TaskId → Call
-  canSteal : ℕ → Call
-  overwrites : Call
-  blocked : Call
-  blockEvents : Call
-  liveCount : Call
-  peak : Call
+  read : Read → Call
 
 -- a read leaves the table
-abbrev pub reading : Model → Reply → Step Model
-reading m r = record { reply = r; after = m }
-
 unfoldable pub step : Model → Call → Step Model
 step m start = startStep m
 step m start1 = startCpuStep m 1
@@ -47,17 +64,4 @@ step m (mark id b) = markStep m id b
 step m (steal t) = tryStealStep m t
 step m (wake id) = wakeStep m id
 step m collect = collectStep m
-step m (current c) = reading m (read.currentReply m c)
-step m (idler c) = reading m (read.idleReply m c)
-step m (ready c) = reading m (read.readyReply m c)
-step m started1 = reading m (read.startedReply m 1)
-step m (state id) = reading m (read.stateReply m id)
-step m (home id) = reading m (read.homeReply m id)
-step m (live s) = reading m (read.liveReply m s)
-step m (stealeable id) = reading m (read.stealeableReply m id)
-step m (canSteal t) = reading m (read.canStealReply m t)
-step m overwrites = reading m (read.overwritesReply m)
-step m blocked = reading m (read.blockedReply m)
-step m blockEvents = reading m (read.blockEventsReply m)
-step m liveCount = reading m (read.liveCountReply m)
-step m peak = reading m (read.peakReply m)
+step m (read r) = record { reply = tells m r; after = m }

@@ -1,10 +1,10 @@
 -- The task table on paper: a list for each thing that a slot has, and for each CPU a queue, head first, with the task that
 -- runs there and the one that is idle there.
-use mathlib.Core.Bool.{Bool, true, false, _&&_, _||_, not, cond}
+use mathlib.Core.Bool.{Bool, false, _&&_, not, cond}
 use mathlib.Core.List.{List, [], _∷_, _++_}
-use mathlib.Core.Option.{Option, some, none}
+use mathlib.Core.Option.{Option, none}
 use Prim.Native.Nat.{ℕ, _+_, _-_, _%_, _^_, min, max}
-use lib.ListN.{length, getD, set, replicate}
+use lib.ListN.{getD, set, replicate}
 use lib.Dec.{eqb, ltb}
 use Rattle.lists.specs.Tab.{tab}
 use Rattle.lists.specs.Search.{firstAt, countOf, anyOf}

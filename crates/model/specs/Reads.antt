@@ -1,6 +1,6 @@
 -- What each call that only reads a task table answers. Reads of a table that is not started answer too.
-use mathlib.Core.Bool.{Bool, true, false, _&&_, not, cond}
-use mathlib.Core.Option.{Option, some, none}
+use mathlib.Core.Bool.{_&&_, not, cond}
+use mathlib.Core.Option.{some, none}
 use Prim.Native.Nat.{ℕ}
 use lib.ListN.{length}
 use lib.Dec.{eqb, ltb}

@@ -2,12 +2,12 @@
 -- twice and that every Ready slot is queued is one count for each slot and CPU; proofs/Literal.antt shows that the count
 -- says just that, and that an idle as it is said here is its CPU's current or in its queue.
 use mathlib.Core.Path.{_≡_}
-use mathlib.Core.Bool.{Bool, true, false, _&&_, not}
+use mathlib.Core.Bool.{Bool, true, false, _&&_}
 use mathlib.Core.Logic.{_⊎_}
 use mathlib.Core.List.{List, [], _∷_}
-use mathlib.Core.Option.{Option, some, none}
+use mathlib.Core.Option.{some}
 use Prim.Native.Nat.{ℕ, _+_, _≤_, _<_}
-use lib.ListN.{length, getD}
+use lib.ListN.{length}
 use lib.Dec.{eqb}
 use Rattle.lists.specs.Entries.{Holds}
 use Rattle.ids.specs.declared.TaskId.{TaskId}

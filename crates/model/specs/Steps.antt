@@ -1,12 +1,12 @@
 -- What each call that makes or changes a task table answers, and what it leaves. Document 01, "Task table" and "Numbers a
 -- call can refuse with": 3 or 4 comes first, then what each call says.
 use mathlib.Core.Bool.{Bool, true, false, _&&_, not, cond}
-use mathlib.Core.Option.{Option, some, none}
+use mathlib.Core.Option.{some, none}
 use Prim.Native.Nat.{ℕ}
 use lib.ListN.{length}
 use lib.Dec.{eqb, ltb, leb}
 use Rattle.ids.specs.declared.TaskId.{TaskId}
-use Rattle.answers.specs.Reply.{Reply, done, told, named}
+use Rattle.answers.specs.Reply.{done, told, named}
 use Rattle.answers.specs.Contract.{Step, refusing}
 use Rattle.model.specs.Model.{Model, MOST, BLOCKED, READY, RUNNING, stateOf, homeOf, queueOf, idleOf, tenant, known, isIdle, started, startedOn, freeSlot, withState, withHome, withMark, withCpu, pushed, withParked, noted, fresh}
 

@@ -8,7 +8,7 @@ use lib.Dec.{ltb}
 use Rattle.lists.specs.Search.{firstAt}
 use Rattle.ids.specs.declared.TaskId.{TaskId}
 use Rattle.ids.specs.Id.{sameId, idle}
-use Rattle.answers.specs.Reply.{Reply, told, stays, switched}
+use Rattle.answers.specs.Reply.{told, stays, switched}
 use Rattle.answers.specs.Contract.{Step, refusing}
 use Rattle.model.specs.Model.{Model, EMPTY, READY, RUNNING, BLOCKED, epochOf, markOf, queueOf, currentOf, idleOf, known, isIdle, startedOn, withState, withEpoch, withHome, withCpu, withQueue, pushed, restTo, capped, bump}
 use Rattle.model.specs.Steps.{whenStarted}

@@ -1,4 +1,5 @@
--- Calls on the deadlines that compute: A10 of document 01, and a row for each of its rules on arming and polling.
+-- Calls on the deadlines that compute: a row for each of document 01's rules on arming and polling. A10 stands with the bench
+-- sheet in the crate `runs`.
 use mathlib.Core.Path.{_≡_, refl}
 use mathlib.Core.List.{List, [], _∷_}
 use mathlib.Core.Option.{some, none}
@@ -24,11 +25,6 @@ output = replicate PLACES 0
 -- the tenants of slots 1 to 16, armed for 50
 abbrev sixteen : Deadlines
 sixteen = tab PLACES (λ k. some (record { id = tenant (suc k); at = 50 }))
-
--- a deadline at 100 has not come at 99, and has come at 100
-pub A10 : replies step fresh (arm (record { slot = 1; epoch = 0 }) 100 ∷ poll 99 (replicate 16 0) ∷ poll 100 (replicate 16 0) ∷ []) ≡ done ∷ number 0 ∷ number 1 ∷ []
-unfolding replies step armStep placeFor firstAt pollStep dueIds takenBy freed
-A10 = refl
 
 -- sixteen tasks, armed one after the other, stand in that order
 pub filled : left step fresh (tab PLACES (λ k. arm (tenant (suc k)) 50)) ≡ sixteen

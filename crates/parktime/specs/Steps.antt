@@ -1,7 +1,7 @@
 -- What each call on the deadlines answers, and what it leaves.
 use mathlib.Core.Bool.{cond}
-use mathlib.Core.List.{List, [], _∷_, _++_, map}
-use mathlib.Core.Option.{Option, some, none}
+use mathlib.Core.List.{List, _++_, map}
+use mathlib.Core.Option.{some, none}
 use Prim.Native.Nat.{ℕ}
 use lib.ListN.{length, set, drop, replicate}
 use lib.Dec.{leb, ltb}

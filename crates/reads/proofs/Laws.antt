@@ -1,8 +1,8 @@
 -- What each read of a table's fields is on paper.
-use mathlib.Core.Path.{_≡_, refl, sym, _∙_, ap, ap₂, subst}
-use mathlib.Core.Bool.{Bool, true, false, _&&_, not, cond}
+use mathlib.Core.Path.{_≡_, refl, sym, _∙_, ap, subst}
+use mathlib.Core.Bool.{Bool, true, false, not, cond}
 use mathlib.Core.List.{List, [], _∷_}
-use mathlib.Core.Option.{Option, some, none}
+use mathlib.Core.Option.{some, none}
 use mathlib.Core.Logic.{⊎-elim}
 use Prim.Native.Nat.{ℕ, _≤_, _<_}
 use native.Mathlib.Omega.{arith}
@@ -15,7 +15,7 @@ use Rattle.ids.specs.Id.{sameId, idle}
 use Rattle.answers.specs.Reply.{Reply, Refused, refused, told, number, named, value}
 use Rattle.answers.specs.Contract.{Reads}
 use Rattle.answers.proofs.Returns.{reads}
-use Rattle.model.specs.Model.{Model, CPUS, EMPTY, STATES, known, stateOf, homeOf, queueOf, startedOn, tenant, blocked, occupied, fresh}
+use Rattle.model.specs.Model.{Model, CPUS, EMPTY, STATES, known, stateOf, queueOf, fresh}
 use Rattle.model.specs.Switch.{isNil}
 use Rattle.model.specs.Reads.{onCpu, currentReply, idleReply, readyReply, startedReply, stateReply, homeReply, liveReply, stealeableReply, overwritesReply, blockedReply, blockEventsReply, liveCountReply, peakReply}
 use Rattle.model.specs.Sound as plain

@@ -1,5 +1,5 @@
 -- The walk of `can_steal_into` over the peer's queue.
-use mathlib.Core.Path.{_≡_, refl, sym, _∙_, ap, ap₂}
+use mathlib.Core.Path.{_≡_, sym, _∙_, ap, ap₂}
 use mathlib.Core.Bool.{Bool, true, false, _&&_}
 use Prim.Native.Nat.{ℕ, _+_, _*_, _%_, _≤_, _<_}
 use native.Mathlib.Omega.{arith}
@@ -8,14 +8,13 @@ use lib.Dec.{ltb}
 use lib.ListN.{length, getD}
 use Rattle.lists.proofs.TabLaws.{getD-tab}
 use Rattle.lists.proofs.SearchLaws.{Passed, passed-none, passed-more, passed-hit, passed-all}
-use Rattle.ids.specs.declared.TaskId.{TaskId}
 use Rattle.ids.specs.Id.{idle}
 use Rattle.answers.specs.Reply.{told}
 use Rattle.answers.specs.Contract.{Reads}
 use Rattle.answers.proofs.Returns.{reads}
 use Rattle.runqueue.specs.Ring.{placed, around, idAt}
 use Rattle.model.specs.Model.{CPUS, queueOf}
-use Rattle.model.specs.Switch.{peerOf, lootAt, isNil, stealeable, canSteal}
+use Rattle.model.specs.Switch.{peerOf, lootAt, stealeable, canSteal}
 use Rattle.model.specs.Reads.{canStealReply}
 use Rattle.memory.specs.declared.Tasks.{Tasks}
 use Rattle.memory.specs.View.{SPAN, headOf, lenOf, view, Sound, table}

@@ -2,24 +2,23 @@
 use mathlib.Core.Path.{_≡_, refl, sym, _∙_, ap, ap₂, subst}
 use mathlib.Core.Bool.{Bool, true, false}
 use mathlib.Core.List.{List, [], _∷_, _++_}
-use mathlib.Core.Option.{Option, some, none}
+use mathlib.Core.Option.{some, none}
 use Prim.Native.Nat.{ℕ, zero, suc, _+_, _-_, _≤_, _<_}
-use native.Mathlib.Numerals.{add-one}
 use native.Mathlib.Omega.{arith}
 use lib.ListN.{length, getD, set, getElem?}
 use lib.Dec.{leb, ltb, eqb}
-use borrow.Author.Tests.{lt-ltb, le-ltb, le-leb, lt-leb, leb-true, leb-false, eq-eqb, ne-eqb}
+use borrow.Author.Tests.{lt-ltb, le-ltb, le-leb, lt-leb, leb-true, leb-false}
 use Rattle.lists.specs.Tells.{Tells}
-use Rattle.lists.proofs.Basics.{tells-yes, tells-no, tells-by}
+use Rattle.lists.proofs.Basics.{tells-no, tells-by}
 use Rattle.ids.specs.declared.TaskId.{TaskId}
 use Rattle.ids.specs.Id.{idle}
 use Rattle.answers.specs.Reply.{Reply, refused, done, told, number, named, Refused}
-use Rattle.answers.specs.Contract.{Makes, Does, Meets, Answers}
-use Rattle.answers.proofs.Returns.{meets-bad, meets, answers, does-keep, does}
+use Rattle.answers.specs.Contract.{Makes, Does, Answers}
+use Rattle.answers.proofs.Returns.{answers, does-keep, does}
 use Rattle.runqueue.specs.declared.RunQueue.{RunQueue}
-use Rattle.runqueue.specs.Ring.{placed, around, idAt, queueAt, Ring, view, Fit, Sound, ring}
+use Rattle.runqueue.specs.Ring.{placed, around, idAt, queueAt, view, Fit, Sound, ring}
 use Rattle.runqueue.specs.Steps.{ringOf, newStep, enqueueStep, dequeueOf, dequeueStep, afterYieldStep, readyAtReply, lenReply, emptyReply, fullReply, capacityReply}
-use Rattle.runqueue.proofs.Places.{placed-lt, placed-low}
+use Rattle.runqueue.proofs.Places.{placed-lt}
 use Rattle.runqueue.proofs.RingLaws.{around-length, around-at, around-none, around-pop, queue-push}
 
 -- THE VIEW

@@ -1,7 +1,7 @@
 -- The wrap: all that anything above needs to know of `placed`.
-use mathlib.Core.Path.{_≡_, refl, sym, _∙_, ap}
+use mathlib.Core.Path.{_≡_, _∙_}
 use mathlib.Core.Logic.{_⊎_, inl, inr, ⊎-elim}
-use Prim.Native.Nat.{ℕ, _+_, _-_, _%_, _≤_, _<_}
+use Prim.Native.Nat.{ℕ, _+_, _-_, _≤_, _<_}
 use native.Mathlib.Nat.{mod-eq-of-lt, mod-eq-sub-mod, mod-add-mod, mod-lt}
 use native.Mathlib.Omega.{arith}
 use Rattle.lists.proofs.Basics.{lt-or-ge}

@@ -1,5 +1,4 @@
 -- A ring in memory, and the list that it is on paper: what is queued, from head to tail.
-use mathlib.Core.Path.{_≡_}
 use mathlib.Core.List.{List}
 use Prim.Native.Nat.{ℕ, _+_, _%_, _≤_, _<_}
 use lib.ListN.{getD}

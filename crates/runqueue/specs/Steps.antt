@@ -1,12 +1,12 @@
 -- What each call on a ring answers, and what it leaves.
-use mathlib.Core.Bool.{Bool, cond, _&&_}
+use mathlib.Core.Bool.{cond, _&&_}
 use mathlib.Core.List.{List, [], _∷_, _++_}
 use mathlib.Core.Option.{Option, some, none}
 use Prim.Native.Nat.{ℕ}
 use lib.ListN.{length, getElem?}
 use lib.Dec.{leb, ltb, eqb}
 use Rattle.ids.specs.declared.TaskId.{TaskId}
-use Rattle.answers.specs.Reply.{Reply, refused, done, told, number, named}
+use Rattle.answers.specs.Reply.{Reply, done, told, number, named}
 use Rattle.answers.specs.Contract.{Step, refusing}
 use Rattle.runqueue.specs.declared.Requeue as requeue
 use Rattle.runqueue.specs.declared.Requeue.the-variants as requeue-of

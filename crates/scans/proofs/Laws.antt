@@ -9,7 +9,7 @@ use lib.Dec.{eqb, ltb}
 use lib.ListN.{length, getD, take}
 use lib.Seq.{getD-take, length-take-le}
 use Rattle.lists.specs.Tab.{tab}
-use Rattle.lists.specs.Search.{firstAt, countOf, anyOf}
+use Rattle.lists.specs.Search.{countOf}
 use Rattle.lists.proofs.TabLaws.{length-tab, getD-tab}
 use Rattle.lists.proofs.SearchLaws.{Passed, passed-none, passed-more, passed-hit, passed-all, Counting, counting-none, counting-hit, counting-pass, counting-all, any-hit, any-none}
 use Rattle.lists.proofs.Basics.{below-next, both-true}

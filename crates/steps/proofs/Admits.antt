@@ -1,6 +1,6 @@
 -- The returns of `admit_on_in`.
 use mathlib.Core.Path.{_≡_, refl, sym, _∙_, ap, ap₂}
-use mathlib.Core.Bool.{Bool, true, false, _&&_}
+use mathlib.Core.Bool.{Bool, false, _&&_}
 use mathlib.Core.Option.{some, none}
 use Prim.Native.Nat.{ℕ, _+_, _*_, _≤_, _<_, max}
 use native.Mathlib.Omega.{arith}
@@ -8,10 +8,10 @@ use borrow.Author.Tests.{lt-ltb, le-ltb}
 use lib.Dec.{ltb}
 use lib.ListN.{length, getD, set}
 use Rattle.ids.specs.declared.TaskId.{TaskId}
-use Rattle.answers.specs.Reply.{Reply, named}
+use Rattle.answers.specs.Reply.{named}
 use Rattle.answers.specs.Contract.{Step, Does}
 use Rattle.runqueue.specs.Ring.{placed}
-use Rattle.model.specs.Model.{Model, MOST, CPUS, READY, tenant, freeSlot, withState, withHome, withMark, pushed, noted}
+use Rattle.model.specs.Model.{Model, CPUS, READY, tenant, freeSlot, withState, withHome, withMark, pushed, noted}
 use Rattle.model.specs.Steps.{admitted, admitStep}
 use Rattle.model.proofs.Joins.{admit-sound}
 use Rattle.memory.specs.declared.Tasks.{Tasks}

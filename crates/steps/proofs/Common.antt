@@ -1,17 +1,16 @@
 -- What every call on a sound task table starts from, and how it ends.
 use mathlib.Core.Path.{_≡_, refl, sym, _∙_, ap, subst}
-use mathlib.Core.Bool.{Bool, true, false, not}
+use mathlib.Core.Bool.{true, false, not}
 use mathlib.Core.List.{List, [], _∷_}
-use Prim.Native.Nat.{ℕ, _≤_, _<_}
+use Prim.Native.Nat.{ℕ, _<_}
 use native.Mathlib.Omega.{arith}
 use borrow.Author.Tests.{eq-eqb, ne-eqb}
-use lib.Dec.{eqb}
 use lib.ListN.{length, getD}
 use Rattle.ids.specs.declared.TaskId.{TaskId}
 use Rattle.answers.specs.Reply.{Reply, refused, Refused}
-use Rattle.answers.specs.Contract.{Step, Does, refusing}
+use Rattle.answers.specs.Contract.{Step, Does}
 use Rattle.answers.proofs.Returns.{does, does-keep}
-use Rattle.model.specs.Model.{Model, MOST, CPUS, EMPTY, stateOf, queueOf, started, fresh}
+use Rattle.model.specs.Model.{Model, CPUS, EMPTY, stateOf, started, fresh}
 use Rattle.model.specs.Steps.{whenStarted}
 use Rattle.model.specs.Switch.{isNil}
 use Rattle.model.specs.Sound as plain

@@ -1,17 +1,16 @@
 -- The returns of a switch that takes a turn.
 use mathlib.Core.Path.{_≡_, refl, sym, _∙_, ap, ap₂, subst}
 use mathlib.Core.Bool.{Bool, true, false, _&&_, not, cond}
-use mathlib.Core.Option.{Option, some, none}
-use Prim.Native.Nat.{ℕ, _+_, _-_, _*_, _≤_, _<_}
-use native.Mathlib.Omega.{arith}
-use lib.ListN.{length, getD}
+use mathlib.Core.Option.{some, none}
+use Prim.Native.Nat.{ℕ, _+_, _-_, _*_, _<_}
+use lib.ListN.{getD}
 use Rattle.ids.specs.declared.TaskId.{TaskId}
 use Rattle.ids.specs.Id.{sameId, idle}
 use Rattle.answers.specs.Reply.{Reply, stays, switched, Refused}
 use Rattle.answers.specs.Contract.{Step, Does}
 use Rattle.runqueue.specs.Ring.{placed}
 use Rattle.model.specs.Model.{Model, CPUS, RUNNING, queueOf, currentOf, startedOn, restTo, capped}
-use Rattle.model.specs.Switch.{Kind, yield, preempt, block, exit, isYield, idles, leaves, enters, released, displaced, parks, turn, pulls, switchOn, switchStep, isNil, canSteal, stealing, stolen}
+use Rattle.model.specs.Switch.{Kind, yield, preempt, block, exit, isYield, idles, leaves, enters, released, displaced, parks, turn, pulls, switchStep, isNil, canSteal, stealing, stolen}
 use Rattle.model.specs.Sound as plain
 use Rattle.model.proofs.Facts.{by-test}
 use Rattle.model.proofs.Steals.{pulls-current, pulls-live}

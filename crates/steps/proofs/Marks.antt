@@ -1,19 +1,19 @@
 -- The returns of `set_stealeable_in` and `collect_in`.
-use mathlib.Core.Path.{_≡_, refl, sym, _∙_, ap, ap₂}
-use mathlib.Core.Bool.{Bool, true, false, _&&_, not, cond}
+use mathlib.Core.Path.{_≡_, refl, sym, _∙_, ap}
+use mathlib.Core.Bool.{Bool, true, false, cond}
 use mathlib.Core.Option.{Option, some, none}
-use Prim.Native.Nat.{ℕ, _≤_, _<_}
+use Prim.Native.Nat.{ℕ, _<_}
 use native.Mathlib.Omega.{arith}
-use lib.ListN.{length, getD}
+use lib.ListN.{getD}
 use Rattle.ids.specs.declared.TaskId.{TaskId}
-use Rattle.answers.specs.Reply.{Reply, told, named}
+use Rattle.answers.specs.Reply.{told, named}
 use Rattle.answers.specs.Contract.{Step, Does}
 use Rattle.model.specs.Model.{Model, withMark, withParked, restTo}
 use Rattle.model.specs.Steps.{markStep, collectStep}
 use Rattle.model.proofs.Facts.{known-is}
 use Rattle.model.proofs.Keeps.{mark-sound, collect-sound}
 use Rattle.memory.specs.declared.Tasks.{Tasks}
-use Rattle.memory.specs.View.{view, Rep, Sound, table}
+use Rattle.memory.specs.View.{view, Sound, table}
 use Rattle.memory.specs.Parts.{knownIn, idleIn}
 use Rattle.memory.proofs.Puts.{putMark, putRest}
 use Rattle.memory.proofs.ViewLaws.{view-n, view-parked, store-mark, rep-mark, store-rest, rep-rest}

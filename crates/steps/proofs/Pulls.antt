@@ -1,28 +1,28 @@
 -- What a try to steal comes to, after the scan: nothing, or the entry found moves with its home.
-use mathlib.Core.Path.{_≡_, refl, sym, _∙_, ap, ap₂, subst}
-use mathlib.Core.Bool.{Bool, true, false, _&&_, cond}
-use mathlib.Core.List.{List, [], _∷_, _++_}
-use Prim.Native.Nat.{ℕ, zero, suc, _+_, _-_, _*_, _%_, _≤_, _<_}
+use mathlib.Core.Path.{_≡_, sym, _∙_, ap, ap₂}
+use mathlib.Core.Bool.{true, false, _&&_}
+use mathlib.Core.List.{List, _∷_, _++_}
+use Prim.Native.Nat.{ℕ, _+_, _-_, _*_, _%_, _≤_, _<_}
 use native.Mathlib.Nat.{add-zero}
 use native.Mathlib.Omega.{arith}
 use borrow.Author.Tests.{lt-ltb, le-ltb}
 use lib.Dec.{ltb}
-use lib.ListN.{length, getD, set, take, drop, length-append, length-take, length-drop, length-set}
+use lib.ListN.{length, getD, take, length-append, length-take, length-drop}
 use lib.Seq.{getD-set-same, getD-set-other, set-set, set-getD, drop-cons}
 use Rattle.ids.specs.declared.TaskId.{TaskId}
 use Rattle.ids.specs.Id.{idle}
-use Rattle.runqueue.specs.Ring.{placed, idAt}
+use Rattle.runqueue.specs.Ring.{placed}
 use Rattle.runqueue.proofs.Places.{placed-low}
-use Rattle.model.specs.Model.{Model, Cpu, CPUS, MOST, noCpu, cpuOf, queueOf, withCpu, withQueue, withHome, setQueue, pushed, started}
-use Rattle.model.specs.Switch.{peerOf, lootAt, robbed, stolen, isNil, canSteal, stealing}
+use Rattle.model.specs.Model.{Model, Cpu, CPUS, noCpu, cpuOf, queueOf, withCpu, withQueue, withHome, setQueue, pushed, started}
+use Rattle.model.specs.Switch.{peerOf, lootAt, robbed, stolen, canSteal, stealing}
 use Rattle.model.proofs.Facts.{queue-known}
 use Rattle.memory.specs.declared.Tasks.{Tasks}
-use Rattle.memory.specs.View.{SPAN, headOf, lenOf, view, RingIs, Rep, Sound}
+use Rattle.memory.specs.View.{SPAN, headOf, lenOf, view, Sound}
 use Rattle.memory.proofs.Puts.{putHead, putHome, putTail}
 use Rattle.memory.proofs.ViewLaws.{view-n, view-ncpus, view-len, store-home, rep-home}
 use Rattle.memory.proofs.RingStores.{ringIn, headIn, restIn, view-split, store-head, rep-head, store-tail, rep-tail}
 use Rattle.steps.specs.Stealing.{turned, Scans, Pulls}
-use Rattle.steps.proofs.Common.{nil-of, lives, has-room}
+use Rattle.steps.proofs.Common.{nil-of, lives}
 use Rattle.steps.proofs.Scans.{turned-all}
 
 -- a queue stored again, and a queue stored as it is

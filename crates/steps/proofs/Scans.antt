@@ -2,7 +2,7 @@
 use mathlib.Core.Path.{_≡_, refl, sym, _∙_, ap, ap₂, subst}
 use mathlib.Core.Bool.{Bool, true, false}
 use mathlib.Core.List.{List, [], _∷_, _++_, append-assoc, append-nil}
-use Prim.Native.Nat.{ℕ, zero, suc, _+_, _-_, _*_, _≤_, _<_}
+use Prim.Native.Nat.{ℕ, suc, _+_, _-_, _*_, _≤_, _<_}
 use native.Mathlib.Numerals.{add-one}
 use native.Mathlib.Omega.{arith}
 use native.Mathlib.Decide.{ℕ-discrete}
@@ -11,16 +11,16 @@ use lib.Seq.{getD-set-same, getD-set-other, drop-cons, take-suc, take-all}
 use Rattle.lists.proofs.SearchLaws.{Passed, passed-none, passed-more, passed-hit, passed-all}
 use Rattle.ids.specs.declared.TaskId.{TaskId}
 use Rattle.ids.specs.Id.{idle}
-use Rattle.runqueue.specs.Ring.{placed, around, idAt, queueAt}
+use Rattle.runqueue.specs.Ring.{placed, idAt, queueAt}
 use Rattle.runqueue.proofs.Places.{placed-low, placed-lt}
 use Rattle.runqueue.proofs.RingLaws.{around-pop, queue-else, queue-turn}
-use Rattle.model.specs.Model.{Model, Cpu, CPUS, MOST, cpuOf, queueOf, withCpu, withQueue, setQueue, started}
+use Rattle.model.specs.Model.{Cpu, CPUS, queueOf, withCpu, withQueue, setQueue}
 use Rattle.model.specs.Switch.{stealeable, lootAt}
 use Rattle.memory.specs.declared.Tasks.{Tasks}
-use Rattle.memory.specs.View.{SPAN, headOf, lenOf, cpuAt, view, RingIs, Rep, Sound}
+use Rattle.memory.specs.View.{SPAN, headOf, lenOf, cpuAt, view, Rep}
 use Rattle.memory.specs.Parts.{stealeableIn}
 use Rattle.memory.proofs.Puts.{putRings}
-use Rattle.memory.proofs.ViewLaws.{view-n, view-cpu, view-len, store-at}
+use Rattle.memory.proofs.ViewLaws.{view-cpu, view-len, store-at}
 use Rattle.memory.proofs.RingStores.{view-queue, rep-rings}
 use Rattle.memory.proofs.PartLaws.{view-stealeable}
 use Rattle.steps.specs.Stealing.{turned, Scans}

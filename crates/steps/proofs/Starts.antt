@@ -1,16 +1,16 @@
 -- What a claim of a slot comes to, and the returns of `start_in` and `start_cpu_in`.
 use mathlib.Core.Path.{_≡_, refl, sym, _∙_, ap, ap₂}
-use mathlib.Core.Bool.{Bool, true, false, not, cond}
+use mathlib.Core.Bool.{Bool, true, false, not}
 use mathlib.Core.Option.{some, none}
-use Prim.Native.Nat.{ℕ, _+_, _*_, _≤_, _<_, max}
+use Prim.Native.Nat.{ℕ, _≤_, _<_, max}
 use native.Mathlib.Omega.{arith}
 use borrow.Author.Tests.{lt-ltb, le-ltb, ne-eqb}
-use lib.ListN.{length, getD, set}
+use lib.ListN.{getD, set}
 use Rattle.ids.specs.declared.TaskId.{TaskId}
 use Rattle.ids.specs.Id.{sameId, idle}
-use Rattle.answers.specs.Reply.{Reply, refused, done, named}
+use Rattle.answers.specs.Reply.{refused, done, named}
 use Rattle.answers.specs.Contract.{Step, Does}
-use Rattle.model.specs.Model.{Model, CPUS, RUNNING, tenant, freeSlot, idleOf, queueOf, startedOn, withState, withHome, withMark, withCpu, noted}
+use Rattle.model.specs.Model.{Model, CPUS, RUNNING, tenant, freeSlot, queueOf, startedOn, withState, withHome, withMark, withCpu, noted}
 use Rattle.model.specs.Steps.{claimed, startStep, startCpuStep}
 use Rattle.model.proofs.Claims.{start-sound, startCpu-sound}
 use Rattle.memory.specs.declared.Tasks.{Tasks}

@@ -1,37 +1,24 @@
 -- A switch, part by part: who may go on, the leaver's stores, the head's stores, the parking.
-use mathlib.Core.Path.{_≡_, refl, sym, _∙_, ap, ap₂, subst}
+use mathlib.Core.Path.{_≡_, refl, sym, _∙_, ap, ap₂}
 use mathlib.Core.Bool.{Bool, true, false, _&&_, not, cond}
-use mathlib.Core.List.{List, [], _∷_, _++_}
-use mathlib.Core.Option.{Option, some, none}
-use Prim.Native.Nat.{ℕ, zero, suc, _+_, _-_, _*_, _%_, _^_, _≤_, _<_}
+use mathlib.Core.List.{List, [], _∷_}
+use Prim.Native.Nat.{ℕ, _≤_, _<_}
 use native.Mathlib.Omega.{arith}
 use borrow.Author.Tests.{lt-ltb, le-ltb, eq-eqb, ne-eqb}
-use lib.Dec.{ltb, eqb}
-use lib.ListN.{length, getD, set, length-set}
-use lib.Seq.{getD-set-same, getD-set-other, set-set}
+use lib.ListN.{length, getD}
 use Rattle.ids.specs.declared.TaskId.{TaskId}
 use Rattle.ids.specs.Id.{sameId, idle}
-use Rattle.answers.specs.Reply.{Reply, refused, stays, switched}
-use Rattle.answers.specs.Contract.{Step, Does, refusing}
-use Rattle.runqueue.specs.Ring.{placed}
-use Rattle.runqueue.proofs.Places.{placed-low}
-use Rattle.model.specs.Model.{Model, Cpu, CPUS, MOST, EMPTY, READY, RUNNING, BLOCKED, noCpu, cpuOf, queueOf, currentOf, idleOf, epochOf, started, startedOn, withState, withEpoch, withCpu, withQueue, setQueue, pushed, restTo, capped, bump}
-use Rattle.model.specs.Steps.{whenStarted}
-use Rattle.model.specs.Switch.{Kind, yield, preempt, block, exit, isYield, idles, isNil, leaves, enters, released, displaced, parks, chooses, turn, pulls, switchOn, switchStep, stealing}
-use Rattle.model.specs.Sound as plain
-use Rattle.model.proofs.Counting.{known-append, known-cons, known-nil, known-head, room}
-use Rattle.model.proofs.Facts.{current-slot, on-facts}
-use Rattle.model.proofs.Steals.{pulls-current, pulls-idle, pulls-live}
-use Rattle.model.proofs.Turns.{queue-left}
-use Rattle.model.proofs.Switches.{pulls-on, pulls-idles, switch-sound}
+use Rattle.answers.specs.Reply.{refused, stays}
+use Rattle.answers.specs.Contract.{Step, Does}
+use Rattle.model.specs.Model.{Model, CPUS, queueOf, startedOn}
+use Rattle.model.specs.Switch.{Kind, isYield, idles, isNil, turn, pulls, switchOn, switchStep, stealing}
+use Rattle.model.proofs.Switches.{switch-sound}
 use Rattle.memory.specs.declared.Tasks.{Tasks}
-use Rattle.memory.specs.View.{SPAN, headOf, lenOf, view, RingIs, Rep, Sound, table}
-use Rattle.memory.proofs.Puts.{putState, putEpoch, putTail, putHead, putCurrent, putRest}
-use Rattle.memory.proofs.ViewLaws.{view-n, view-ncpus, view-current, view-idle, view-epoch, view-len, view-parked, store-state, store-epoch, store-current, store-rest, rep-state, rep-epoch, rep-current, rep-rest}
-use Rattle.memory.proofs.RingStores.{ringIn, headIn, restIn, view-split, store-tail, rep-tail, store-head, rep-head}
+use Rattle.memory.specs.View.{lenOf, view, Rep, Sound, table}
+use Rattle.memory.proofs.ViewLaws.{view-ncpus, view-current, view-idle, view-len}
 use Rattle.steps.specs.Stealing.{Pulls}
-use Rattle.steps.specs.Switching.{Ready, Left}
-use Rattle.steps.proofs.Common.{is-on, when-on, lives, keeps, ends}
+use Rattle.steps.specs.Switching.{Ready}
+use Rattle.steps.proofs.Common.{is-on, when-on, keeps, ends}
 
 -- WHETHER THERE IS A SWITCH
 

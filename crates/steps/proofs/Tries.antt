@@ -1,15 +1,15 @@
 -- The returns of `try_steal_into_in`.
 use mathlib.Core.Path.{_≡_, refl, sym, _∙_, ap}
-use mathlib.Core.Bool.{Bool, true, false, _&&_, and-false}
+use mathlib.Core.Bool.{Bool, false, _&&_, and-false}
 use Prim.Native.Nat.{ℕ, _≤_, _<_}
 use native.Mathlib.Omega.{arith}
 use borrow.Author.Tests.{le-ltb}
 use lib.Dec.{ltb}
 use lib.ListN.{length, getD}
-use Rattle.answers.specs.Reply.{Reply, told}
+use Rattle.answers.specs.Reply.{told}
 use Rattle.answers.specs.Contract.{Step, Does}
 use Rattle.model.specs.Model.{Model, CPUS, queueOf}
-use Rattle.model.specs.Switch.{peerOf, lootAt, isNil, canSteal, stealing, tryStealStep}
+use Rattle.model.specs.Switch.{peerOf, lootAt, canSteal, stealing, tryStealStep}
 use Rattle.model.proofs.Steals.{trySteal-sound}
 use Rattle.memory.specs.declared.Tasks.{Tasks}
 use Rattle.memory.specs.View.{lenOf, view, Sound, table}

@@ -1,34 +1,29 @@
 -- The stores of a turn: the current task leaves, the head of the queue runs, a leaver that ended is parked.
 use mathlib.Core.Path.{_≡_, refl, sym, _∙_, ap, ap₂, subst}
-use mathlib.Core.Bool.{Bool, true, false, _&&_, not, cond}
-use mathlib.Core.List.{List, [], _∷_, _++_, append-nil}
-use mathlib.Core.Option.{Option, some, none}
-use Prim.Native.Nat.{ℕ, zero, suc, _+_, _-_, _*_, _%_, _^_, _≤_, _<_}
+use mathlib.Core.Bool.{true, false, cond}
+use mathlib.Core.List.{List, [], _∷_}
+use mathlib.Core.Option.{some, none}
+use Prim.Native.Nat.{ℕ, _+_, _-_, _*_, _%_, _^_, _<_}
 use native.Mathlib.Omega.{arith}
-use lib.ListN.{length, getD, set, length-set}
+use lib.ListN.{length, getD}
 use lib.Seq.{getD-set-same, set-set}
 use Rattle.ids.specs.declared.TaskId.{TaskId}
 use Rattle.ids.specs.Id.{sameId, idle}
-use Rattle.answers.specs.Reply.{Reply, stays, switched, Refused}
-use Rattle.answers.specs.Contract.{Step, Does}
+use Rattle.answers.specs.Reply.{stays, switched}
 use Rattle.runqueue.specs.Ring.{placed}
 use Rattle.runqueue.proofs.Places.{placed-low}
-use Rattle.model.specs.Model.{Model, Cpu, CPUS, MOST, EMPTY, READY, RUNNING, BLOCKED, noCpu, cpuOf, queueOf, currentOf, idleOf, epochOf, startedOn, withState, withEpoch, withCpu, withQueue, setQueue, pushed, restTo, capped, bump, cpusTo}
-use Rattle.model.specs.Switch.{Kind, yield, preempt, block, exit, isYield, idles, leaves, enters, released, displaced, parks, chooses, turn, pulls, switchOn, switchStep}
+use Rattle.model.specs.Model.{Model, Cpu, CPUS, EMPTY, READY, RUNNING, BLOCKED, noCpu, cpuOf, queueOf, currentOf, idleOf, epochOf, startedOn, withState, withEpoch, withCpu, withQueue, setQueue, pushed, restTo, capped, bump, cpusTo}
+use Rattle.model.specs.Switch.{Kind, block, exit, leaves, enters, released, parks, chooses, turn}
 use Rattle.model.specs.Sound as plain
-use Rattle.model.proofs.Counting.{known-append, known-cons, known-nil, known-head, room}
+use Rattle.model.proofs.Counting.{known-head, room}
 use Rattle.model.proofs.Facts.{on-facts}
-use Rattle.model.proofs.Steals.{pulls-current, pulls-live}
 use Rattle.model.proofs.Turns.{May, leaves-core, queue-left}
-use Rattle.model.proofs.Switches.{pulls-on, pulls-idles, switch-sound}
 use Rattle.memory.specs.declared.Tasks.{Tasks}
-use Rattle.memory.specs.View.{SPAN, headOf, lenOf, view, RingIs, Rep, Sound, table}
+use Rattle.memory.specs.View.{SPAN, headOf, lenOf, view, Rep}
 use Rattle.memory.proofs.Puts.{putState, putEpoch, putTail, putHead, putCurrent, putRest}
-use Rattle.memory.proofs.ViewLaws.{view-n, view-ncpus, view-current, view-idle, view-epoch, view-len, view-parked, view-overwrites, view-events, view-peak, store-state, store-epoch, store-current, store-rest, rep-state, rep-epoch, rep-current, rep-rest}
+use Rattle.memory.proofs.ViewLaws.{view-n, view-ncpus, view-current, view-epoch, view-len, view-parked, view-overwrites, view-events, view-peak, store-state, store-epoch, store-current, store-rest, rep-state, rep-epoch, rep-current, rep-rest}
 use Rattle.memory.proofs.RingStores.{ringIn, headIn, restIn, view-split, store-tail, rep-tail, store-head, rep-head}
-use Rattle.steps.specs.Switching.{Ready, Left}
-use Rattle.steps.proofs.Common.{lives, ends}
-use Rattle.steps.proofs.Switches.{switches, switched-turn}
+use Rattle.steps.specs.Switching.{Left}
 
 chooses-same : (m : Model) (c : ℕ) (k : Kind) (f x : TaskId) (l : List TaskId) → sameId x f ≡ true → chooses m c k f (x ∷ l) ≡ record { reply = stays; after = enters m c x l }
 unfolding chooses

@@ -1,20 +1,20 @@
 -- The returns of `wake_in`.
-use mathlib.Core.Path.{_≡_, refl, sym, _∙_, ap, ap₂}
-use mathlib.Core.Bool.{Bool, true, false, _&&_}
+use mathlib.Core.Path.{_≡_, refl, sym, _∙_, ap}
+use mathlib.Core.Bool.{true, false}
 use Prim.Native.Nat.{ℕ, _+_, _*_, _≤_, _<_}
 use native.Mathlib.Omega.{arith}
 use borrow.Author.Tests.{eq-eqb, ne-eqb}
-use lib.ListN.{length, getD}
+use lib.ListN.{getD}
 use Rattle.ids.specs.declared.TaskId.{TaskId}
-use Rattle.answers.specs.Reply.{Reply, told}
+use Rattle.answers.specs.Reply.{told}
 use Rattle.answers.specs.Contract.{Step, Does}
 use Rattle.runqueue.specs.Ring.{placed}
-use Rattle.model.specs.Model.{Model, MOST, CPUS, READY, BLOCKED, stateOf, homeOf, known, withState, pushed}
+use Rattle.model.specs.Model.{Model, MOST, CPUS, READY, BLOCKED, withState, pushed}
 use Rattle.model.specs.Steps.{woken, wakeStep}
 use Rattle.model.proofs.Facts.{known-is, home-cpu}
 use Rattle.model.proofs.Joins.{wake-sound}
 use Rattle.memory.specs.declared.Tasks.{Tasks}
-use Rattle.memory.specs.View.{SPAN, view, headOf, lenOf, Rep, Sound, table}
+use Rattle.memory.specs.View.{SPAN, view, headOf, lenOf, Sound, table}
 use Rattle.memory.specs.Parts.{knownIn}
 use Rattle.memory.proofs.Puts.{putState, putTail}
 use Rattle.memory.proofs.ViewLaws.{view-n, view-state, view-home, store-state, rep-state}

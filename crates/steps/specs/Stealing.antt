@@ -5,7 +5,7 @@ use mathlib.Core.List.{List, _++_}
 use Prim.Native.Nat.{ℕ, _≤_}
 use lib.ListN.{length, take, drop}
 use Rattle.ids.specs.declared.TaskId.{TaskId}
-use Rattle.model.specs.Model.{Model, queueOf, withQueue}
+use Rattle.model.specs.Model.{queueOf, withQueue}
 use Rattle.model.specs.Switch.{lootAt, canSteal, stealing}
 use Rattle.memory.specs.declared.Tasks.{Tasks}
 use Rattle.memory.specs.View.{view, Rep}

@@ -1,11 +1,7 @@
 -- What stands between the parts of a switch: a CPU that is about to take a turn, and one whose current task has left.
 use mathlib.Core.Path.{_≡_}
-use mathlib.Core.Bool.{Bool, true, false, _&&_, not}
+use mathlib.Core.Bool.{false, _&&_, not}
 use Prim.Native.Nat.{ℕ}
-use lib.ListN.{getD}
-use Rattle.ids.specs.declared.TaskId.{TaskId}
-use Rattle.ids.specs.Id.{idle}
-use Rattle.model.specs.Model.{Model}
 use Rattle.model.specs.Switch.{Kind, isYield, idles, leaves, pulls}
 use Rattle.memory.specs.declared.Tasks.{Tasks}
 use Rattle.memory.specs.View.{view, Rep}

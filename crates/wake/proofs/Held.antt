@@ -1,12 +1,11 @@
 -- How many tokens two indexes hold between them, and what one step of either does to that.
-use mathlib.Core.Path.{_≡_, refl, sym, _∙_, ap}
+use mathlib.Core.Path.{_≡_, refl, _∙_}
 use mathlib.Core.Bool.{Bool, true, false, _||_}
 use mathlib.Core.Logic.{_⊎_, inl, inr, ⊎-elim}
 use Prim.Native.Nat.{ℕ, _+_, _-_, _≤_, _<_}
 use native.Mathlib.Omega.{arith}
 use lib.Dec.{eqb}
 use borrow.Author.Tests.{eqb-true}
-use Rattle.lists.proofs.Basics.{lt-or-ge}
 use Rattle.runqueue.specs.Ring.{placed}
 use Rattle.runqueue.proofs.Places.{wrap}
 use Rattle.wake.specs.Queue.{listed, held}

@@ -1,10 +1,10 @@
 -- What each `return` of a call on the wake queue has to show, said of values alone.
 use mathlib.Core.Path.{_≡_, refl, sym, _∙_, ap, ap₂}
-use mathlib.Core.Bool.{Bool, true, false}
+use mathlib.Core.Bool.{true, false}
 use mathlib.Core.Logic.{_⊎_, inl, inr}
-use mathlib.Core.List.{List, [], _∷_, _++_}
-use mathlib.Core.Option.{Option, some, none}
-use Prim.Native.Nat.{ℕ, suc, _+_, _-_, _%_, _^_, _≤_, _<_}
+use mathlib.Core.List.{[], _∷_, _++_}
+use mathlib.Core.Option.{some, none}
+use Prim.Native.Nat.{ℕ, _+_, _%_, _<_}
 use native.Mathlib.Numerals.{add-one}
 use native.Mathlib.Omega.{arith}
 use native.Mathlib.Decide.{ℕ-discrete}
@@ -13,16 +13,16 @@ use lib.Seq.{getD-set-same, getD-set-other}
 use lib.Dec.{ltb, eqb}
 use borrow.Author.Tests.{lt-ltb, le-ltb, ltb-true, ltb-false, eq-eqb, ne-eqb}
 use Rattle.lists.specs.Tells.{Tells}
-use Rattle.lists.proofs.Basics.{tells-no, tells-by, not-both}
-use Rattle.answers.specs.Reply.{Reply, refused, done, told, number, value}
+use Rattle.lists.proofs.Basics.{tells-by}
+use Rattle.answers.specs.Reply.{refused, done, told, number, value}
 use Rattle.answers.specs.Contract.{Makes, Does, Answers}
 use Rattle.answers.proofs.Returns.{answers, does-keep, does}
 use Rattle.runqueue.specs.Ring.{placed, around}
 use Rattle.runqueue.proofs.RingLaws.{around-length, around-none, around-push, around-pop}
 use Rattle.wake.specs.declared.WakeQueue.{WakeQueue}
-use Rattle.wake.specs.Queue.{Queue, listed, held, view, Fit, Sound, wakes}
+use Rattle.wake.specs.Queue.{listed, held, view, Fit, Sound, wakes}
 use Rattle.wake.specs.Steps.{queueOf, fresh, DROPS, newStep, pushStep, popOf, popStep, dropsReply, emptyReply}
-use Rattle.wake.proofs.Held.{listed-small, held-below, head-after, none-held, some-held, held-full, held-room, held-more, held-less}
+use Rattle.wake.proofs.Held.{listed-small, head-after, none-held, some-held, held-full, held-room, held-more, held-less}
 
 -- THE VIEW
 

@@ -1,7 +1,7 @@
 -- What happened, told from the calls and their answers alone.
-use mathlib.Core.Bool.{Bool, true, false}
+use mathlib.Core.Bool.{true, false}
 use mathlib.Core.List.{List, [], _∷_}
-use Prim.Native.Nat.{ℕ, suc, _+_}
+use Prim.Native.Nat.{ℕ, _+_}
 use Rattle.answers.specs.Reply.{Reply, refused, done, told, number, named, value, stays, switched}
 use Rattle.wake.specs.Queue.{Queue}
 use Rattle.wake.specs.Calls.{Call, push, pop, drops, empty, step}

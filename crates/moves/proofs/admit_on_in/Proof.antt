@@ -3,8 +3,7 @@ use borrow.Author.Needs.{needs}
 use Rattle.moves.proofs.admit_on_in.Statement.{statement}
 use Rattle.moves.proofs.admit_on_in.Tie as tie
 use native.Mathlib.Omega.{arith}
-use mathlib.Core.Path.{_≡_, refl, sym, _∙_}
-use borrow.Author.Tests.{not-true, not-false}
+use mathlib.Core.Path.{refl, _∙_}
 use Rattle.steps.proofs.Common.{not-started}
 use Rattle.steps.proofs.Admits.{admit-above, admit-none, admit-done}
 use Rattle.steps.proofs.Common.{has-room}
@@ -91,7 +90,7 @@ element-write-t-6 : tie.Need-element-write-t-6
 element-write-t-6 c = search needs
 
 occupied-requires : tie.Need-occupied-requires
-occupied-requires c κs = let s = c .before .before .before .before .before .before .before .before .before .before .before .before .before in let t = s .args .t1 in let w = s .pre in (w .rep .most, simp length-set (omega (arith, w .rep .states, w .rep .most)))
+occupied-requires c κs = let s = c .before .before .before .before .before .before .before .before .before .before .before .before .before in let w = s .pre in (w .rep .most, simp length-set (omega (arith, w .rep .states, w .rep .most)))
 
 larger-requires : tie.Need-larger-requires
 larger-requires c κs = search needs

@@ -3,7 +3,7 @@ use borrow.Author.Needs.{needs}
 use Rattle.moves.proofs.claim.Statement.{statement}
 use Rattle.moves.proofs.claim.Tie as tie
 use native.Mathlib.Omega.{arith}
-use mathlib.Core.Path.{_≡_, refl, sym, _∙_}
+use mathlib.Core.Path.{refl, _∙_}
 use Rattle.steps.proofs.Starts.{claim-done}
 use lib.ListN.{length-set}
 use mathlib.Core.Path.{ap}

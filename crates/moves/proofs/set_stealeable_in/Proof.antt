@@ -3,7 +3,7 @@ use borrow.Author.Needs.{needs}
 use Rattle.moves.proofs.set_stealeable_in.Statement.{statement}
 use Rattle.moves.proofs.set_stealeable_in.Tie as tie
 use native.Mathlib.Omega.{arith}
-use mathlib.Core.Path.{_≡_, refl, sym, _∙_}
+use mathlib.Core.Path.{sym, _∙_}
 use borrow.Author.Tests.{not-true, not-false}
 use Rattle.steps.proofs.Common.{not-started}
 use Rattle.steps.proofs.Marks.{mark-unknown, mark-near, mark-idle, mark-done}

@@ -2,8 +2,7 @@
 use borrow.Author.Needs.{needs}
 use Rattle.moves.proofs.start_cpu_in.Statement.{statement}
 use Rattle.moves.proofs.start_cpu_in.Tie as tie
-use native.Mathlib.Omega.{arith}
-use mathlib.Core.Path.{_≡_, refl, sym, _∙_}
+use mathlib.Core.Path.{refl, sym, _∙_}
 use borrow.Author.Tests.{not-true, not-false}
 use Rattle.steps.proofs.Common.{not-started}
 use Rattle.steps.proofs.Starts.{cpu-again, cpu-none, cpu-done}

@@ -2,8 +2,6 @@
 use borrow.Author.Needs.{needs}
 use Rattle.moves.proofs.start_in.Statement.{statement}
 use Rattle.moves.proofs.start_in.Tie as tie
-use native.Mathlib.Omega.{arith}
-use mathlib.Core.Path.{_≡_, refl, sym, _∙_}
 use Rattle.steps.proofs.Starts.{start-again, start-done}
 
 element-copy-out-if1 : tie.Need-element-copy-out-if1

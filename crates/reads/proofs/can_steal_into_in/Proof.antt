@@ -2,7 +2,7 @@
 use Rattle.reads.proofs.can_steal_into_in.Statement.{statement}
 use Rattle.reads.proofs.can_steal_into_in.Tie as tie
 use native.Mathlib.Omega.{arith}
-use mathlib.Core.Path.{_≡_, refl, sym, _∙_}
+use mathlib.Core.Path.{refl, sym, _∙_}
 use borrow.Author.Needs.{needs}
 use Prim.Native.Nat.{_-_}
 use Rattle.reads.proofs.Walks.{Walked, far, busy, peer-in, walk-start, walk-on, walk-found, walk-none}

@@ -2,9 +2,6 @@
 use borrow.Author.Needs.{needs}
 use Rattle.reads.proofs.cpu1_started_in.Statement.{statement}
 use Rattle.reads.proofs.cpu1_started_in.Tie as tie
-use mathlib.Core.Path.{ap}
-use mathlib.Core.Bool.{not}
-use Rattle.answers.specs.Reply.{told}
 use Rattle.reads.proofs.Laws.{started-is}
 
 element-copy-out-idle : tie.Need-element-copy-out-idle

@@ -2,15 +2,13 @@ use Rattle.scans.proofs.blocked.Statement.{statement}
 use Rattle.scans.proofs.blocked.Tie as tie
 use native.Mathlib.Omega.{arith}
 use borrow.Author.Needs.{needs}
-use Prim.Native.Nat.{_≤_, _-_, _<_}
-use mathlib.Core.Bool.{not}
+use Prim.Native.Nat.{_≤_, _-_}
 use lib.Dec.{eqb}
-use Rattle.model.specs.Model.{EMPTY, BLOCKED}
+use Rattle.model.specs.Model.{BLOCKED}
 use Rattle.memory.specs.Parts.{blockedIn}
 use Rattle.scans.proofs.Laws.{Counted, counted-most, counted-none, counted-hit, counted-pass, counted-all}
 use mathlib.Core.Logic.{⊎-elim}
-use borrow.Author.Tests.{not-true, not-false, eq-eqb, ne-eqb}
-use mathlib.Core.Path.{_≡_, refl, sym, _∙_, ap}
+use borrow.Author.Tests.{eq-eqb, ne-eqb}
 
 abbrev Inv-loop : tie.InvT-loop
 Inv-loop states n k₀ s₀ k s = (s ≤ n) × Counted (λ s. eqb s BLOCKED) states n s k

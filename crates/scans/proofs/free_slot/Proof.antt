@@ -5,8 +5,7 @@ use borrow.Author.Needs.{needs}
 use Prim.Native.Nat.{_≤_, _-_}
 use Rattle.scans.proofs.Laws.{Taken, taken-none, taken-more, free-is, free-none, vacant-not, vacant-free, vacant-other, vacant-parked}
 use mathlib.Core.Logic.{⊎-elim}
-use borrow.Author.Tests.{not-true, not-false, eq-eqb, ne-eqb}
-use mathlib.Core.Path.{_≡_, refl, sym, _∙_, ap}
+use borrow.Author.Tests.{not-true, not-false}
 
 abbrev Inv-loop : tie.InvT-loop
 Inv-loop states n parked at s₀ s = (s ≤ n) × Taken states parked at n s

@@ -4,7 +4,7 @@ use native.Mathlib.Omega.{arith}
 use borrow.Author.Needs.{needs}
 use Prim.Native.Nat.{_≤_, _-_}
 use Rattle.scans.proofs.Laws.{NoneOf, none-start, none-more, idle-hit, idle-none}
-use mathlib.Core.Path.{_≡_, refl, sym, _∙_, ap}
+use mathlib.Core.Path.{sym, _∙_}
 
 abbrev Inv-loop : tie.InvT-loop
 Inv-loop id idles c₀ c = (c ≤ 2) × NoneOf idles id c

@@ -1,7 +1,6 @@
 use borrow.Author.Needs.{needs}
 use Rattle.scans.proofs.known.Statement.{statement}
 use Rattle.scans.proofs.known.Tie as tie
-use native.Mathlib.Omega.{arith}
 use Rattle.scans.proofs.Laws.{known-far, known-near}
 
 cast-s : tie.Need-cast-s

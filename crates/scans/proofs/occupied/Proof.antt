@@ -2,15 +2,15 @@ use Rattle.scans.proofs.occupied.Statement.{statement}
 use Rattle.scans.proofs.occupied.Tie as tie
 use native.Mathlib.Omega.{arith}
 use borrow.Author.Needs.{needs}
-use Prim.Native.Nat.{_≤_, _-_, _<_}
+use Prim.Native.Nat.{_≤_, _-_}
 use mathlib.Core.Bool.{not}
 use lib.Dec.{eqb}
-use Rattle.model.specs.Model.{EMPTY, BLOCKED}
+use Rattle.model.specs.Model.{EMPTY}
 use Rattle.memory.specs.Parts.{occupiedIn}
 use Rattle.scans.proofs.Laws.{Counted, counted-most, counted-none, counted-hit, counted-pass, counted-all}
 use mathlib.Core.Logic.{⊎-elim}
-use borrow.Author.Tests.{not-true, not-false, eq-eqb, ne-eqb}
-use mathlib.Core.Path.{_≡_, refl, sym, _∙_, ap}
+use borrow.Author.Tests.{eq-eqb, ne-eqb}
+use mathlib.Core.Path.{ap}
 
 abbrev Inv-loop : tie.InvT-loop
 Inv-loop states n k₀ s₀ k s = (s ≤ n) × Counted (λ s. not (eqb s EMPTY)) states n s k

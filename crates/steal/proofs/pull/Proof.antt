@@ -3,8 +3,8 @@ use borrow.Author.Needs.{needs}
 use Rattle.steal.proofs.pull.Statement.{statement}
 use Rattle.steal.proofs.pull.Tie as tie
 use native.Mathlib.Omega.{arith}
-use mathlib.Core.Path.{_≡_, refl, sym, _∙_}
-use Rattle.steps.proofs.Pulls.{peer-in, same-n, peer-len, x-slot, pull-entry, pull-none, pull-done}
+use mathlib.Core.Path.{refl}
+use Rattle.steps.proofs.Pulls.{peer-in, x-slot, pull-entry, pull-none, pull-done}
 use mathlib.Core.Path.{ap}
 use Rattle.ids.specs.declared.TaskId.{TaskId}
 
@@ -51,7 +51,7 @@ element-copy-out-spot : tie.Need-element-copy-out-spot
 element-copy-out-spot c = search needs
 
 spot-requires-2 : tie.Need-spot-requires-2
-spot-requires-2 c κs = let s = c .before .before .before .before .before .before .before .before .before .before in let t = s .args .t in let w = s .pre .0 in let on = s .pre .1 .0 in let hc = s .pre .1 .1 .0 in let z = s .pre .1 .1 .1 in let r = c .before .before .before .before .before .before .before .before .before .scan .ensures .rep in (hc, (r .most, omega (arith, r .rings _ hc .head)))
+spot-requires-2 c κs = let s = c .before .before .before .before .before .before .before .before .before .before in let w = s .pre .0 in let on = s .pre .1 .0 in let hc = s .pre .1 .1 .0 in let z = s .pre .1 .1 .1 in let r = c .before .before .before .before .before .before .before .before .before .scan .ensures .rep in (hc, (r .most, omega (arith, r .rings _ hc .head)))
 
 cast-s : tie.Need-cast-s
 cast-s c = search needs

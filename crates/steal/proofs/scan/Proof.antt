@@ -2,10 +2,10 @@
 use Rattle.steal.proofs.scan.Statement.{statement}
 use Rattle.steal.proofs.scan.Tie as tie
 use native.Mathlib.Omega.{arith}
-use mathlib.Core.Path.{_≡_, refl, sym, _∙_}
+use mathlib.Core.Path.{refl, _∙_}
 use borrow.Author.Needs.{needs}
-use Prim.Native.Nat.{_-_, _<_}
-use Rattle.steps.proofs.Scans.{Turning, turning-start, turning-entry, turning-test, turning-pass, turning-end, found-at, found-none}
+use Prim.Native.Nat.{_-_}
+use Rattle.steps.proofs.Scans.{Turning, turning-start, turning-test, turning-pass, turning-end, found-at, found-none}
 use Rattle.steps.proofs.Common.{has-room}
 use mathlib.Core.Logic.{⊎-elim}
 
@@ -31,7 +31,7 @@ loop-holds : tie.Need-loop-holds Inv-loop μ-loop
 loop-holds c = let s = c .before .before .before in turning-start (s .args .t1) (s .args .peer) (s .pre .0 .rep) (s .pre .1 .1)
 
 spot-requires : tie.Need-spot-requires Inv-loop μ-loop
-spot-requires c κs = let s = c .before .before .before .before .before in let t = s .args .t1 in let w = s .pre .0 in let hp = s .pre .1 .1 in let v = c .before .loop .inv in let h = c .before .loop .head in let j = c .before .loop .j in let u = c .before .loop .t in (hp, (w .rep .most, omega (arith, v .headed)))
+spot-requires c κs = let s = c .before .before .before .before .before in let w = s .pre .0 in let hp = s .pre .1 .1 in let v = c .before .loop .inv in (hp, (w .rep .most, omega (arith, v .headed)))
 
 mul-t21 : tie.Need-mul-t21 Inv-loop μ-loop
 mul-t21 c = search needs
@@ -46,13 +46,13 @@ element-copy-out-t28 : tie.Need-element-copy-out-t28 Inv-loop μ-loop
 element-copy-out-t28 c = search needs
 
 stealeable-requires : tie.Need-stealeable-requires Inv-loop μ-loop
-stealeable-requires c κs = let s = c .before .before .before .before .before .before .before .before .before .before .before in let t = s .args .t1 in let w = s .pre .0 in let hp = s .pre .1 .1 in w .rep .most
+stealeable-requires c κs = let s = c .before .before .before .before .before .before .before .before .before .before .before in let w = s .pre .0 in w .rep .most
 
 add-spot : tie.Need-add-spot Inv-loop μ-loop
-add-spot c = let s = c .before .before .before .before .before .before .before .before .before .before .before .before .before in let t = s .args .t1 in let w = s .pre .0 in let hp = s .pre .1 .1 in let v = c .before .before .before .before .before .before .before .before .before .loop .inv in let h = c .before .before .before .before .before .before .before .before .before .loop .head in let j = c .before .before .before .before .before .before .before .before .before .loop .j in let u = c .before .before .before .before .before .before .before .before .before .loop .t in let room = has-room t w (s .pre .1 .0) (s .args .peer) hp in let m = w .rep .most in omega (arith, v .headed)
+add-spot c = let s = c .before .before .before .before .before .before .before .before .before .before .before .before .before in let t = s .args .t1 in let w = s .pre .0 in let hp = s .pre .1 .1 in let v = c .before .before .before .before .before .before .before .before .before .loop .inv in let room = has-room t w (s .pre .1 .0) (s .args .peer) hp in let m = w .rep .most in omega (arith, v .headed)
 
 spot-requires-2 : tie.Need-spot-requires-2 Inv-loop μ-loop
-spot-requires-2 c κs = let s = c .before .before .before .before .before .before .before .before .before .before .before .before .before in let t = s .args .t1 in let w = s .pre .0 in let hp = s .pre .1 .1 in let v = c .before .before .before .before .before .before .before .before .before .loop .inv in let h = c .before .before .before .before .before .before .before .before .before .loop .head in let j = c .before .before .before .before .before .before .before .before .before .loop .j in let u = c .before .before .before .before .before .before .before .before .before .loop .t in let room = has-room t w (s .pre .1 .0) (s .args .peer) hp in let m = w .rep .most in (hp, (m, omega (arith, v .headed)))
+spot-requires-2 c κs = let s = c .before .before .before .before .before .before .before .before .before .before .before .before .before in let t = s .args .t1 in let w = s .pre .0 in let hp = s .pre .1 .1 in let v = c .before .before .before .before .before .before .before .before .before .loop .inv in let room = has-room t w (s .pre .1 .0) (s .args .peer) hp in let m = w .rep .most in (hp, (m, omega (arith, v .headed)))
 
 mul-t : tie.Need-mul-t Inv-loop μ-loop
 mul-t c = search needs
@@ -67,13 +67,13 @@ element-write-t-2 : tie.Need-element-write-t-2 Inv-loop μ-loop
 element-write-t-2 c = search needs
 
 add-place : tie.Need-add-place Inv-loop μ-loop
-add-place c = let s = c .before .before .before .before .before .before .before .before .before .before .before .before .before .before in let t = s .args .t1 in let w = s .pre .0 in let hp = s .pre .1 .1 in let v = c .before .before .before .before .before .before .before .before .before .before .loop .inv in let h = c .before .before .before .before .before .before .before .before .before .before .loop .head in let j = c .before .before .before .before .before .before .before .before .before .before .loop .j in let u = c .before .before .before .before .before .before .before .before .before .before .loop .t in let room = has-room t w (s .pre .1 .0) (s .args .peer) hp in let m = w .rep .most in omega (arith, v .headed)
+add-place c = let s = c .before .before .before .before .before .before .before .before .before .before .before .before .before .before in let t = s .args .t1 in let w = s .pre .0 in let hp = s .pre .1 .1 in let v = c .before .before .before .before .before .before .before .before .before .before .loop .inv in let room = has-room t w (s .pre .1 .0) (s .args .peer) hp in let m = w .rep .most in omega (arith, v .headed)
 
 place-requires : tie.Need-place-requires Inv-loop μ-loop
-place-requires c κs = let s = c .before .before .before .before .before .before .before .before .before .before .before .before .before .before in let t = s .args .t1 in let w = s .pre .0 in let hp = s .pre .1 .1 in let v = c .before .before .before .before .before .before .before .before .before .before .loop .inv in let h = c .before .before .before .before .before .before .before .before .before .before .loop .head in let j = c .before .before .before .before .before .before .before .before .before .before .loop .j in let u = c .before .before .before .before .before .before .before .before .before .before .loop .t in let room = has-room t w (s .pre .1 .0) (s .args .peer) hp in let m = w .rep .most in omega (arith, v .headed)
+place-requires c κs = let s = c .before .before .before .before .before .before .before .before .before .before .before .before .before .before in let t = s .args .t1 in let w = s .pre .0 in let hp = s .pre .1 .1 in let v = c .before .before .before .before .before .before .before .before .before .before .loop .inv in let room = has-room t w (s .pre .1 .0) (s .args .peer) hp in let m = w .rep .most in omega (arith, v .headed)
 
 add-j : tie.Need-add-j Inv-loop μ-loop
-add-j c = let s = c .before .before .before .before .before .before .before .before .before .before .before .before .before .before .before in let t = s .args .t1 in let w = s .pre .0 in let hp = s .pre .1 .1 in let v = c .before .before .before .before .before .before .before .before .before .before .before .loop .inv in let h = c .before .before .before .before .before .before .before .before .before .before .before .loop .head in let j = c .before .before .before .before .before .before .before .before .before .before .before .loop .j in let u = c .before .before .before .before .before .before .before .before .before .before .before .loop .t in let room = has-room t w (s .pre .1 .0) (s .args .peer) hp in let m = w .rep .most in omega arith
+add-j c = let s = c .before .before .before .before .before .before .before .before .before .before .before .before .before .before .before in let t = s .args .t1 in let w = s .pre .0 in let hp = s .pre .1 .1 in let v = c .before .before .before .before .before .before .before .before .before .before .before .loop .inv in let room = has-room t w (s .pre .1 .0) (s .args .peer) hp in let m = w .rep .most in omega arith
 
 loop-less : tie.Need-loop-less Inv-loop μ-loop
 loop-less c = search needs

@@ -2,9 +2,6 @@
 use borrow.Author.Needs.{needs}
 use Rattle.steal.proofs.try_steal_into_in.Statement.{statement}
 use Rattle.steal.proofs.try_steal_into_in.Tie as tie
-use native.Mathlib.Omega.{arith}
-use mathlib.Core.Path.{_≡_, refl, sym, _∙_}
-use borrow.Author.Tests.{not-true, not-false}
 use Rattle.steps.proofs.Common.{not-started, is-on}
 use Rattle.steps.proofs.Tries.{try-above, try-busy, try-done}
 use Rattle.model.specs.Switch.{tryStealStep}

@@ -2,7 +2,6 @@
 use borrow.Author.Needs.{needs}
 use Rattle.runqueue.proofs.RunQueue.after_yield_in.Statement.{statement}
 use Rattle.runqueue.proofs.RunQueue.after_yield_in.Tie as tie
-use mathlib.Core.Path.{_≡_}
 use Rattle.runqueue.proofs.Laws.{after-none, after-full, after-put}
 
 enum-told : tie.Need-enum-told

@@ -2,7 +2,6 @@
 use borrow.Author.Needs.{needs}
 use Rattle.runqueue.proofs.RunQueue.dequeue_in.Statement.{statement}
 use Rattle.runqueue.proofs.RunQueue.dequeue_in.Tie as tie
-use native.Mathlib.Omega.{arith}
 use mathlib.Core.Path.{refl}
 use Rattle.runqueue.proofs.Laws.{dequeue-none, dequeue-done}
 

@@ -2,7 +2,6 @@
 use borrow.Author.Needs.{needs}
 use Rattle.runqueue.proofs.RunQueue.enqueue_in.Statement.{statement}
 use Rattle.runqueue.proofs.RunQueue.enqueue_in.Tie as tie
-use native.Mathlib.Omega.{arith}
 use mathlib.Core.Path.{refl}
 use Rattle.runqueue.proofs.Laws.{enqueue-full, enqueue-done}
 

@@ -2,7 +2,6 @@
 use borrow.Author.Needs.{needs}
 use Rattle.runqueue.proofs.RunQueue.new.Statement.{statement}
 use Rattle.runqueue.proofs.RunQueue.new.Tie as tie
-use native.Mathlib.Omega.{arith}
 use Rattle.runqueue.proofs.Laws.{new-small, new-large, new-done}
 
 empty-requires : tie.Need-empty-requires

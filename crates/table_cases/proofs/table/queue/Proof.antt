@@ -1,8 +1,6 @@
 -- The loop counts to the length of the queue.
-use Prim.Native.Nat.{_+_, _≤_, _-_, _<_}
+use Prim.Native.Nat.{_≤_, _-_}
 use borrow.Author.Needs.{needs}
-use native.Mathlib.Omega.{arith}
-use lib.ListN.{length}
 use Rattle.table_cases.proofs.table.queue.Statement.{statement}
 use Rattle.table_cases.proofs.table.queue.Tie as tie
 

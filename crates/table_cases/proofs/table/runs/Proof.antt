@@ -1,7 +1,6 @@
 -- The loop goes through the script.
-use Prim.Native.Nat.{_+_, _≤_, _-_, _<_}
+use Prim.Native.Nat.{_≤_, _-_}
 use borrow.Author.Needs.{needs}
-use native.Mathlib.Omega.{arith}
 use lib.ListN.{length}
 use Rattle.table_cases.proofs.table.runs.Statement.{statement}
 use Rattle.table_cases.proofs.table.runs.Tie as tie

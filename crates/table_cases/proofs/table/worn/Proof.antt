@@ -1,8 +1,6 @@
 -- The loop counts to k.
-use Prim.Native.Nat.{_+_, _≤_, _-_, _<_}
+use Prim.Native.Nat.{_≤_, _-_}
 use borrow.Author.Needs.{needs}
-use native.Mathlib.Omega.{arith}
-use lib.ListN.{length}
 use Rattle.table_cases.proofs.table.worn.Statement.{statement}
 use Rattle.table_cases.proofs.table.worn.Tie as tie
 

@@ -1,0 +1,5 @@
+pub mod Demand2
+pub mod Projects
+pub mod SheetRows
+pub mod ShutOut
+pub mod Coincidence
