@@ -2,5 +2,6 @@
 #![allow(dead_code, clippy::all)]
 
 pub mod plain;
+pub mod script;
 
 include!(concat!(env!("OUT_DIR"), "/harbor.rs"));

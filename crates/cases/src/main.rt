@@ -1,5 +1,6 @@
-// Runs the calls at their edges, a line for each group. Lines that begin with `ours` are of refusals that the customer's Rust
-// does not have; every other line is also what the Rust writes.
+// Runs the calls and the script program at their edges, a line for each group. Lines that begin with `ours` are of refusals that
+// the customer's Rust does not have; every other line is also what the Rust writes, those that begin with `script` behind the
+// same refusals.
 use leaf_cases::life;
 use leaf_cases::parks;
 use leaf_cases::ring;
@@ -34,4 +35,5 @@ fn main() {
     damage::started();
     damage::fresh();
     life::every_state();
+    script_cases::every_group();
 }

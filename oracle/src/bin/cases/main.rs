@@ -1,6 +1,8 @@
 //! The twin of the program `cases`: the same groups on the customer's Rust. Lines that begin with `ours` are of refusals that
-//! the Rust does not have; they are written here from document 01's rules, independently of the Rattle code.
+//! the Rust does not have; they are written here from document 01's rules, independently of the Rattle code. So is the script
+//! program, which the lines that begin with `script` are outputs of.
 
+mod script;
 mod table;
 
 use oracle::irqwait::{ArmError, WaitTable};
@@ -459,6 +461,7 @@ fn main() {
     ]
     .into_iter()
     .chain(table::lines())
+    .chain(script::lines())
     {
         println!("{line}");
     }

@@ -11,7 +11,7 @@ const TABLE: &str = include_str!("../../../../crates/table_cases/src/table.rt");
 const DAMAGE: &str = include_str!("../../../../crates/table_cases/src/damage.rt");
 
 /// The arguments of each call of a function in a source file, in order.
-fn calls(source: &str, name: &str) -> Vec<(usize, Vec<String>)> {
+pub fn calls(source: &str, name: &str) -> Vec<(usize, Vec<String>)> {
     let mut found = Vec::new();
     for (at, _) in source.match_indices(&format!(" {name}(")) {
         if source[..at].ends_with("fn") {
@@ -36,7 +36,7 @@ fn calls(source: &str, name: &str) -> Vec<(usize, Vec<String>)> {
 }
 
 /// A byte string's text.
-fn bytes(arg: &str) -> &str {
+pub fn bytes(arg: &str) -> &str {
     arg.strip_prefix('b').unwrap()
 }
 

@@ -1,0 +1,47 @@
+// Packed ids, and what a supervisor may do to a task.
+ghost use mathlib.Core.Path.{_≡_};
+ghost use Rattle.ids.specs.Id.{packed, unpacked};
+ghost use Rattle.lifecycle.specs.Verdicts.{reapOf, forceOf, cancelOf};
+ghost use Rattle.numbers.specs.Operands.{stateNamed, verdictNo};
+use ids::TaskId;
+use ids::Token;
+
+#[no_mangle]
+pub extern "C" fn bredumalt_ids_to_raw(id: TaskId) -> u32
+    ensures { λ r. ⌜ r ≡ packed id ⌝ }
+{
+    let raw = id.to_raw();
+    raw.0
+}
+
+#[no_mangle]
+pub extern "C" fn bredumalt_ids_from_raw(raw: u32) -> TaskId
+    ensures { λ r. ⌜ r ≡ unpacked raw ⌝ }
+{
+    TaskId::from_raw(Token(raw))
+}
+
+// A state crosses as its code; any other number says that the id is not known.
+#[no_mangle]
+pub extern "C" fn bredumalt_lifecycle_reap(is_idle: bool, state: u8) -> u8
+    ensures { λ r. ⌜ r ≡ verdictNo (reapOf «is_idle» (stateNamed state)) ⌝ }
+{
+    let target = numbers::target_of(state);
+    numbers::from_reap(lifecycle::reap(is_idle, target))
+}
+
+#[no_mangle]
+pub extern "C" fn bredumalt_lifecycle_force(is_idle: bool, state: u8) -> u8
+    ensures { λ r. ⌜ r ≡ verdictNo (forceOf «is_idle» (stateNamed state)) ⌝ }
+{
+    let target = numbers::target_of(state);
+    numbers::from_force(lifecycle::force(is_idle, target))
+}
+
+#[no_mangle]
+pub extern "C" fn bredumalt_lifecycle_cancel(state: u8) -> u8
+    ensures { λ r. ⌜ r ≡ verdictNo (cancelOf (stateNamed state)) ⌝ }
+{
+    let target = numbers::target_of(state);
+    numbers::from_cancel(lifecycle::cancel(target))
+}

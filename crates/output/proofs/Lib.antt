@@ -1,0 +1,6 @@
+pub mod Rows
+pub mod RoundTrip
+pub mod Turns
+pub mod Arms
+pub mod Nexts
+pub mod Whole

@@ -1,0 +1,1 @@
+// The whole output of a script: definitions and laws only. There is no code here.
