@@ -9,12 +9,14 @@ use Rattle.lists.specs.Search.{countOf}
 use Rattle.lists.proofs.Basics.{not-both}
 use Rattle.ids.specs.declared.TaskId.{TaskId}
 use Rattle.answers.specs.Run.{left}
-use Rattle.model.specs.Model.{Model, MOST, restTo, withMark, fresh}
+use Rattle.model.specs.Model.{Model, CPUS, MOST, restTo, withMark, fresh}
 use Rattle.model.specs.Steps.{startStep, claimed}
 use Rattle.model.specs.Switch.{yield, exit}
 use Rattle.model.specs.Calls.{Call, start, start1, admit, switch, mark, steal, step}
 use Rattle.model.specs.Sound.{Sound}
-use Rattle.model.proofs.Facts.{live}
+use Rattle.model.proofs.Core.{live-core, live-ends, finish}
+use Rattle.model.proofs.Ends.{core-rest}
+use Rattle.model.proofs.Facts.{live, sound-live}
 use Rattle.model.proofs.Claims.{fresh-sound}
 use Rattle.model.proofs.Keeps.{calls-sound}
 
@@ -54,6 +56,22 @@ peak-high s = let v = live (restTo begun none 0 0 3) s refl in omega (arith, v .
 pub parked-now : Sound (restTo begun (some (id 1 0)) 0 0 1) → ⊥
 unfolding left step startStep claimed countOf
 parked-now s = let v = live (restTo begun (some (id 1 0)) 0 0 1) s refl in omega (arith, v .parked .epoch)
+
+-- so a leaver of epoch 65,535 is parked where the slot's epoch is 0 again
+pub parked-wrap : Sound (restTo begun (some (id 1 65535)) 0 0 1)
+unfolding left step startStep claimed countOf
+parked-wrap =
+    let s = reached 2 (omega arith) (omega arith) (start ∷ []) in
+    let v = live begun s refl in
+    let w = restTo begun (some (id 1 65535)) 0 0 1 in
+    sound-live w
+    (finish w (core-rest begun CPUS (some (id 1 65535)) 0 0 1 (live-core begun (s .shape) v))
+    (record {
+      awake = record { idles = live-ends begun v .awake .idles };
+      parked = record { slot = omega arith; other = λ e. omega arith; state = refl; fits = omega arith; epoch = refl };
+      low = v .low;
+      high = v .high;
+    }))
 
 -- an idle is not marked
 pub idle-marked : Sound (withMark begun 0 true) → ⊥
