@@ -1,0 +1,40 @@
+//! Two sides of each kind of table, the customer's Rust and our exported calls, made to do the same calls and compared after each.
+//! What is compared, and by which runs, is told in docs/ORACLE.md.
+
+pub mod deadlines;
+pub mod pair;
+pub mod ring;
+pub mod rng;
+pub mod small;
+pub mod sound;
+pub mod tasks;
+pub mod waits;
+pub mod wakes;
+
+use bredumalt::{Reply, TaskId};
+use oracle::runqueue::TaskId as TheirId;
+
+/// The customer's id as ours.
+pub fn id(t: TheirId) -> TaskId {
+    TaskId { slot: t.slot() as u16, epoch: t.epoch() }
+}
+
+/// Our id as the customer's.
+pub fn their(t: TaskId) -> TheirId {
+    TheirId::new(t.slot, t.epoch)
+}
+
+/// An id that may be absent, as an answer.
+pub fn named(t: Option<TheirId>) -> Reply {
+    Reply::Named(t.map(id))
+}
+
+/// An id as scripts write it.
+pub fn written(t: TaskId) -> String {
+    format!("{}/{}", t.slot, t.epoch)
+}
+
+/// Tells the two values where they differ.
+pub fn same<T: PartialEq + std::fmt::Debug>(what: &str, theirs: T, ours: T) -> Result<(), String> {
+    if theirs == ours { Ok(()) } else { Err(format!("{what}: the Rust has {theirs:?}, ours has {ours:?}")) }
+}
