@@ -2,7 +2,7 @@
 
 use crate::pair::{Pair, Setup};
 use crate::rng::Rng;
-use crate::tasks::by_mailbox;
+use crate::tasks::answered;
 use crate::{id, named, same, their, written};
 use bredumalt::{Answer, Mailbox, Operands, Reply, TaskId, WaitTable, irqwait, mailbox};
 use oracle::irqwait::{ArmError, WaitTable as Theirs};
@@ -128,14 +128,7 @@ impl Pair for Both {
 
     fn step(&mut self, call: Call) -> Result<(), String> {
         let expected = theirs_call(&mut self.theirs, call);
-        let answer = match &mut self.mailbox {
-            Some(m) => by_mailbox(m, operands(call))?,
-            None => {
-                let answer;
-                (self.ours, answer) = by_value(self.ours, call);
-                answer
-            }
-        };
+        let answer = answered(&mut self.mailbox, operands(call), &mut self.ours, |ours| by_value(ours, call))?;
         same("answer", expected, answer.reply())?;
         compare(&self.theirs, self.ours())
     }

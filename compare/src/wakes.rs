@@ -3,7 +3,7 @@
 use crate::pair::{Pair, Setup};
 use crate::rng::Rng;
 use crate::same;
-use crate::tasks::by_mailbox;
+use crate::tasks::answered;
 use bredumalt::{Answer, Mailbox, Operands, Reply, WakeQueue, mailbox, wake};
 use oracle::wake::WakeQueue as Theirs;
 use std::fmt;
@@ -138,14 +138,7 @@ impl Pair for Both {
 
     fn step(&mut self, call: Call) -> Result<(), String> {
         let expected = self.theirs.call(call);
-        let answer = match &mut self.mailbox {
-            Some(m) => by_mailbox(m, operands(call))?,
-            None => {
-                let answer;
-                (self.ours, answer) = by_value(self.ours, call);
-                answer
-            }
-        };
+        let answer = answered(&mut self.mailbox, operands(call), &mut self.ours, |ours| by_value(ours, call))?;
         same("answer", expected, answer.reply())?;
         same("drops", self.theirs.drops(), self.ours().drops)?;
         same("contents", self.theirs.contents(), contents(self.ours()))

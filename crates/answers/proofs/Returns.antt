@@ -1,7 +1,10 @@
 -- What a `return` has to show, by the kind of its answer.
 use mathlib.Core.Path.{_≡_, refl, sym, subst}
-use Rattle.answers.specs.Reply.{Reply, refused, Refused}
-use Rattle.answers.specs.Contract.{Kind, Step, Does, Reads, Meets, Answers}
+use mathlib.Core.Bool.{Bool, true, false, cond}
+use Prim.Native.Nat.{ℕ}
+use native.Mathlib.Omega.{arith}
+use Rattle.answers.specs.Reply.{Reply, refused, done, Refused}
+use Rattle.answers.specs.Contract.{Kind, Step, Does, Reads, Meets, Answers, refusing}
 
 module _ (k : Kind) (t : k .Memory) where
   -- the test failed
@@ -27,3 +30,15 @@ module _ (k : Kind) (t : k .Memory) where
   pub does : (u : k .Memory) (got : Reply) (want : Step (k .Plain)) → (Refused got → ⊥) → got ≡ want .reply → k .view u ≡ want .after → k .Sound u → Does k t u got want
   does u got want f e a s =
       record { fine = λ z. f (subst Refused (sym z) tt); makes = record { reply = e; after = a; sound = s }; kept = λ r. absurd (f r) }
+
+-- A MAKER'S ANSWER
+
+-- done says that the size is listed, a refusal that it is not, and is 2
+module _ {P : Type 0} (p q : P) where
+  pub listed-by : (t : Bool) → done ≡ cond t (record { reply = done; after = p }) (refusing 2 q) .reply → t ≡ true
+  listed-by true e = refl
+  listed-by false e = let z : _≡_ {A = ℕ} 0 1 = cc in absurd (omega arith)
+
+  pub unlisted-by : (t : Bool) (k : ℕ) → refused k ≡ cond t (record { reply = done; after = p }) (refusing 2 q) .reply → (t ≡ false) × (k ≡ 2)
+  unlisted-by true k e = let z : _≡_ {A = ℕ} 0 1 = cc in absurd (omega arith)
+  unlisted-by false k e = (refl, cc)

@@ -31,9 +31,10 @@ isRefused (value v) = false
 isRefused stays = false
 isRefused (switched a b c) = false
 
-abbrev pub Holds : Bool → Type 0
-Holds true = Unit {0}
-Holds false = ⊥
+-- a test that came out true, as a statement
+abbrev pub So : Bool → Type 0
+So true = Unit {0}
+So false = ⊥
 
 abbrev pub Refused : Reply → Type 0
-Refused r = Holds (isRefused r)
+Refused r = So (isRefused r)

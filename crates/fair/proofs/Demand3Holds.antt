@@ -8,7 +8,7 @@ use native.Mathlib.Nat.{add-mul}
 use native.Mathlib.Omega.{arith}
 use lib.ListN.{take, drop, take-append-drop}
 use Rattle.lists.specs.Search.{anyOf, firstAt}
-use Rattle.lists.specs.Entries.{taken}
+use Rattle.lists.specs.Entries.{isThere, taken}
 use Rattle.lists.proofs.Basics.{not-both}
 use Rattle.lists.proofs.SearchLaws.{first-hit}
 use Rattle.ids.specs.declared.TaskId.{TaskId}
@@ -23,7 +23,7 @@ use Rattle.model.proofs.Literal.{counts-once, queue-written}
 use Rattle.model.proofs.Claims.{fresh-sound}
 use Rattle.model.proofs.Keeps.{step-sound, calls-sound}
 use Rattle.model.proofs.Sizes.{step-size}
-use Rattle.fair.specs.Fair.{Event, event, lootOf, End, still, chosen, stolen, Watch, is-some, through, ended, waits, ahead, watch, bound}
+use Rattle.fair.specs.Fair.{Event, event, lootOf, End, still, chosen, stolen, Watch, through, ended, waits, ahead, watch, bound}
 use Rattle.fair.specs.Demand3.{Fair}
 use Rattle.fair.proofs.Moves.{Move, joins, turns, robs, moves}
 use Rattle.fair.proofs.Placed.{Placed, placed}
@@ -105,15 +105,15 @@ module _ (c : ℕ) (x : TaskId) (hc : c < CPUS) where
   -- a call that it waits through, and what comes after that
   waits-on : (m f : Model) (e : Event) (loot : Option TaskId) (r : List TaskId) (w : Watch) → Placed (sameId x) (m .n) (queueOf m c) r e loot → Watched (m .n) (firstAt (sameId x) r) r c x f w → Watched (m .n) (ahead m c x) (queueOf m c) c x f (through e loot w)
   waits-on m f e loot r w p v =
-      let more = add-mul (one-if (is-some loot)) (w .steals) (m .n - 3) in
+      let more = add-mul (one-if (isThere loot)) (w .steals) (m .n - 3) in
       record {
         stands = v .stands;
         most = λ g. omega (arith, more, v .most g, p .most);
         by = λ g. omega (arith, more, v .by g, p .most);
-        before = λ s g. let a = none-lost (is-some loot) (w .steals) s in omega (arith, v .before (a .1) g, p .exact (a .0));
-        exact = λ s g. let a = none-lost (is-some loot) (w .steals) s in omega (arith, v .exact (a .1) g, p .exact (a .0));
+        before = λ s g. let a = none-lost (isThere loot) (w .steals) s in omega (arith, v .before (a .1) g, p .exact (a .0));
+        exact = λ s g. let a = none-lost (isThere loot) (w .steals) s in omega (arith, v .exact (a .1) g, p .exact (a .0));
         order = λ s g.
-            let a = none-lost (is-some loot) (w .steals) s in
+            let a = none-lost (isThere loot) (w .steals) s in
             ap (λ l. e .chosen ++ l) (v .order (a .1) g) ∙ p .order (a .0) (firstAt (sameId x) r) (omega arith) ∙ ap (λ i. take i (queueOf m c)) (p .exact (a .0));
       }
     where

@@ -9,12 +9,12 @@ use native.Mathlib.Omega.{arith}
 use lib.ListN.{length, take, length-append}
 use lib.Seq.{take-append-le}
 use Rattle.lists.specs.Search.{firstAt, anyOf}
-use Rattle.lists.specs.Entries.{taken}
+use Rattle.lists.specs.Entries.{isThere, taken}
 use Rattle.lists.proofs.Basics.{not-both}
 use Rattle.lists.proofs.SearchLaws.{first-pass}
 use Rattle.ids.specs.declared.TaskId.{TaskId}
 use Rattle.model.specs.Sound.{one-if}
-use Rattle.fair.specs.Fair.{Event, is-some}
+use Rattle.fair.specs.Fair.{Event}
 use Rattle.fair.proofs.Places.{first-joined, pushed-back}
 use Rattle.fair.proofs.Moves.{Move, joins, turns, robs}
 
@@ -23,10 +23,10 @@ module _ (p : TaskId → Bool) (n : ℕ) (q r : List TaskId) (e : Event) (loot :
     -- it stands in the queue
     pub stands : firstAt p r < length r
     -- a turn takes one from in front of it, a steal puts it back by at most N - 3
-    pub most : one-if (e .turn) + firstAt p r ≤ firstAt p q + one-if (is-some loot) * (n - 3)
+    pub most : one-if (e .turn) + firstAt p r ≤ firstAt p q + one-if (isThere loot) * (n - 3)
     -- without a steal its place is exact, and who is chosen, now and from the queue then, stood ahead of it, in order
-    pub exact : is-some loot ≡ false → one-if (e .turn) + firstAt p r ≡ firstAt p q
-    pub order : is-some loot ≡ false → (i : ℕ) → i ≤ firstAt p r → e .chosen ++ take i r ≡ take (one-if (e .turn) + i) q
+    pub exact : isThere loot ≡ false → one-if (e .turn) + firstAt p r ≡ firstAt p q
+    pub order : isThere loot ≡ false → (i : ℕ) → i ≤ firstAt p r → e .chosen ++ take i r ≡ take (one-if (e .turn) + i) q
 
   any-one : (x : TaskId) → anyOf p (x ∷ []) ≡ false → p x ≡ false
   unfolding anyOf

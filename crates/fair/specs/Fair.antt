@@ -1,13 +1,13 @@
 -- Demand 3, in its words: a ready task, the entries ahead of it, turns on its CPU, steals from its queue, who is chosen.
 -- All of it is told from the calls, their answers, and the table at each call.
-use mathlib.Core.Bool.{Bool, true, false, _&&_, _||_, not, cond}
+use mathlib.Core.Bool.{Bool, false, _&&_, _||_, not, cond}
 use mathlib.Core.List.{List, [], _∷_, _++_}
 use mathlib.Core.Option.{Option, some, none}
 use Prim.Native.Nat.{ℕ, _+_, _-_, _*_}
 use lib.ListN.{getD}
 use lib.Dec.{eqb}
 use Rattle.lists.specs.Search.{firstAt, anyOf}
-use Rattle.lists.specs.Entries.{taken}
+use Rattle.lists.specs.Entries.{isThere, taken}
 use Rattle.ids.specs.declared.TaskId.{TaskId}
 use Rattle.ids.specs.Id.{sameId, idle}
 use Rattle.answers.specs.Reply.{Reply, refused, done, told, number, named, value, stays, switched, isRefused}
@@ -89,13 +89,9 @@ pub record Watch : Type 0 where
   pub others : List TaskId
   pub end : End
 
-abbrev pub is-some : {A : Type 0} → Option A → Bool
-is-some none = false
-is-some (some x) = true
-
 -- an event that the task waits through, before what comes after it
 abbrev pub through : Event → Option TaskId → Watch → Watch
-through e loot w = record { turns = one-if (e .turn) + w .turns; steals = one-if (is-some loot) + w .steals; others = e .chosen ++ w .others; end = w .end }
+through e loot w = record { turns = one-if (e .turn) + w .turns; steals = one-if (isThere loot) + w .steals; others = e .chosen ++ w .others; end = w .end }
 
 abbrev pub ended : ℕ → End → Watch
 ended turns end = record { turns = turns; steals = 0; others = []; end = end }

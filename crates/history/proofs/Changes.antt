@@ -12,7 +12,7 @@ use lib.Seq.{getD-set-same, getD-set-other}
 use lib.Dec.{eqb, ltb}
 use borrow.Author.Tests.{eq-eqb, ne-eqb, eqb-true, ltb-true}
 use Rattle.lists.specs.Search.{countOf}
-use Rattle.lists.specs.Entries.{taken}
+use Rattle.lists.specs.Entries.{isThere}
 use Rattle.lists.proofs.Basics.{both-true, getD-all}
 use Rattle.ids.specs.declared.TaskId.{TaskId}
 use Rattle.answers.specs.Reply.{Reply, refused, done, named, stays, switched}
@@ -181,7 +181,7 @@ module _ (m : Model) (shape : Shape m) (v : Live m) (c : ℕ) (hc : c < CPUS) (o
       epoch i (yes e) = rw (eq-eqb s i e, ← e) (getD-set-same (m .epochs) s (bump (epochOf m s)) 0 (omega (arith, shape .epochs, v .cpus c hc .on on .current .slot)))
       epoch i (no e) = rw (ne-eqb s i e) (getD-set-other (m .epochs) s i (bump (epochOf m s)) 0 (λ z. e (sym z)))
 
-      counted : (p : Option TaskId) → displaced p (m .overwrites) ≡ cond (taken (λ (i : TaskId). true) p) (capped (m .overwrites)) (m .overwrites)
+      counted : (p : Option TaskId) → displaced p (m .overwrites) ≡ cond (isThere p) (capped (m .overwrites)) (m .overwrites)
       counted none = refl
       counted (some p) = refl
 

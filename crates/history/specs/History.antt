@@ -4,7 +4,7 @@ use mathlib.Core.List.{List, [], _∷_}
 use mathlib.Core.Option.{Option, some, none}
 use Prim.Native.Nat.{ℕ, _+_, max}
 use lib.Dec.{eqb}
-use Rattle.lists.specs.Entries.{taken}
+use Rattle.lists.specs.Entries.{isThere, taken}
 use Rattle.ids.specs.declared.TaskId.{TaskId}
 use Rattle.answers.specs.Reply.{Reply, refused, done, told, number, named, value, stays, switched, isRefused}
 use Rattle.model.specs.Model.{Model, startedOn, occupied}
@@ -79,18 +79,18 @@ arrival m (read q) r = false
 
 -- an exit that answered Switch, and one of a slot
 abbrev pub departure : Call → Reply → Bool
-departure k r = taken isExit (kindIn k) && taken (λ s. true) (switchedBy r)
+departure k r = taken isExit (kindIn k) && isThere (switchedBy r)
 
 abbrev pub exitOf : ℕ → Call → Reply → Bool
 exitOf s k r = taken isExit (kindIn k) && taken (λ (w : Switched). eqb (w .from .slot) s) (switchedBy r)
 
 -- a block that happened
 abbrev pub blocking : Call → Reply → Bool
-blocking k r = taken isBlock (kindIn k) && taken (λ s. true) (switchedBy r)
+blocking k r = taken isBlock (kindIn k) && isThere (switchedBy r)
 
 -- an exit that displaced an earlier leaver
 abbrev pub displacing : Call → Reply → Bool
-displacing k r = taken isExit (kindIn k) && taken (λ (w : Switched). taken (λ i. true) (w .release)) (switchedBy r)
+displacing k r = taken isExit (kindIn k) && taken (λ (w : Switched). isThere (w .release)) (switchedBy r)
 
 -- OVER A RUN
 

@@ -12,7 +12,12 @@ abbrev pub free : {A : Type 0} → Option A → Bool
 free none = true
 free (some x) = false
 
--- a place is taken, by an entry that p holds of
+-- a place is taken
+abbrev pub isThere : {A : Type 0} → Option A → Bool
+isThere none = false
+isThere (some x) = true
+
+-- by an entry that p holds of
 abbrev pub taken : {A : Type 0} → (A → Bool) → Option A → Bool
 taken p none = false
 taken p (some x) = p x

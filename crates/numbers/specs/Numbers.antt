@@ -1,17 +1,14 @@
 -- An answer as it crosses the C boundary, where no enum can: document 01's number first, 0 for none, and then which kind of
 -- answer it is and its values. What a kind does not use is 0.
 use mathlib.Core.Path.{_≡_}
-use mathlib.Core.Bool.{Bool, true, false}
+use mathlib.Core.Bool.{false}
 use mathlib.Core.Option.{Option, some, none}
 use Prim.Native.Nat.{ℕ}
+use Rattle.lists.specs.Entries.{isThere}
 use Rattle.ids.specs.declared.TaskId.{TaskId}
 use Rattle.ids.specs.Id.{idle}
 use Rattle.answers.specs.Reply.{Reply, refused, done, told, number, named, value, stays, switched}
 use Rattle.numbers.specs.declared.Answer.{Answer}
-
-abbrev pub isThere : {A : Type 0} → Option A → Bool
-isThere none = false
-isThere (some x) = true
 
 abbrev pub idOr : Option TaskId → TaskId
 idOr none = idle

@@ -1,13 +1,13 @@
 -- What each kind of line does to a loop over lines: the table that it is about changes, and its answer is written.
 use mathlib.Core.Path.{_≡_, refl, _∙_, ap, subst}
-use mathlib.Core.Bool.{Bool, true, false, _&&_, cond}
+use mathlib.Core.Bool.{_&&_, cond}
 use mathlib.Core.List.{List, []}
 use Prim.Native.Nat.{ℕ, _+_}
-use native.Mathlib.Omega.{arith}
 use lib.ListN.{replicate}
 use lib.Dec.{leb}
 use Rattle.answers.specs.Reply.{Reply, refused, done}
 use Rattle.answers.specs.Contract.{Makes, Does, lent, refusing}
+use Rattle.answers.proofs.Returns.{listed-by, unlisted-by}
 use Rattle.model.specs.Model.{MOST}
 use Rattle.model.specs.Model as tasks
 use Rattle.model.specs.Steps as tasks-steps
@@ -40,15 +40,6 @@ use Rattle.output.proofs.Turns.{Loop, turn}
 -- four tables, and no output kept
 abbrev pub here : Tasks → WaitTable → Table → WakeQueue → Memory
 here a b c d = record { tasks = a; waits = b; deadlines = c; wakes = d; out = [] }
-
--- what a maker's answer says of the size
-listed-by : {P : Type 0} (t : Bool) (p q : P) → done ≡ cond t (record { reply = done; after = p }) (refusing 2 q) .reply → t ≡ true
-listed-by true p q e = refl
-listed-by false p q e = let z : _≡_ {A = ℕ} 0 1 = cc in absurd (omega arith)
-
-unlisted-by : {P : Type 0} (t : Bool) (k : ℕ) (p q : P) → refused k ≡ cond t (record { reply = done; after = p }) (refusing 2 q) .reply → (t ≡ false) × (k ≡ 2)
-unlisted-by true k p q e = let z : _≡_ {A = ℕ} 0 1 = cc in absurd (omega arith)
-unlisted-by false k p q e = (refl, cc)
 
 module _ (input : List ℕ) (t₀ : Memory) (n₀ at₀ size : ℕ) (out : List ℕ) (a : Tasks) (b : WaitTable) (c : Table) (d : WakeQueue) (n at used : ℕ) (l : Loop input t₀ n₀ at₀ size out (here a b c d) n at used) (r used′ : ℕ) (out′ : List ℕ) (got : Reply) where
   abbrev After : Memory → Type 0
@@ -115,7 +106,7 @@ module _ (input : List ℕ) (t₀ : Memory) (n₀ at₀ size : ℕ) (out : List 
   pub ran-new : (m : ℕ) (u : Tasks) (v : WaitTable) (x : Table) (y : WakeQueue) → Next input at (afresh m) r → Makes tasks-kind.table u done (tasks-steps.newStep m) → Makes waits-kind.waits v done waits.newStep → Makes deadlines-kind.deadlines x done deadlines.newStep → Makes wakes-kind.wakes y done (tokens.newStep TOKENS) → Said done [] → After (here u v x y)
   unfolding plays tasks-steps.newStep tokens.newStep wakes-kind.listed
   ran-new m u v x y nx mu mv mx my w =
-      let yes = listed-by (leb 1 m && leb m MOST) (tasks.fresh m) (tasks.fresh 1) (mu .reply) in
+      let yes = listed-by (tasks.fresh m) (tasks.fresh 1) (leb 1 m && leb m MOST) (mu .reply) in
       turn input t₀ n₀ at₀ size out (here a b c d) n at used l (afresh m) r (here u v x y) out′ used′ nx
       (record { tasks = mu .sound; waits = mv .sound; deadlines = mx .sound; wakes = my .sound })
       (rw yes (rw (mu .after ∙ ap (λ t. cond t (record { reply = done; after = tasks.fresh m }) (refusing 2 (tasks.fresh 1)) .after) yes, mv .after, mx .after, my .after)))
@@ -124,5 +115,5 @@ module _ (input : List ℕ) (t₀ : Memory) (n₀ at₀ size : ℕ) (out : List 
   pub ran-new-refused : (m k : ℕ) (u : Tasks) → Next input at (afresh m) r → Makes tasks-kind.table u (refused k) (tasks-steps.newStep m) → Said (refused k) [] → After (here a b c d)
   unfolding plays tasks-steps.newStep
   ran-new-refused m k u nx mu w =
-      let (not, two) = unlisted-by (leb 1 m && leb m MOST) k (tasks.fresh m) (tasks.fresh 1) (mu .reply) in
+      let (not, two) = unlisted-by (tasks.fresh m) (tasks.fresh 1) (leb 1 m && leb m MOST) k (mu .reply) in
       turn input t₀ n₀ at₀ size out (here a b c d) n at used l (afresh m) r (here a b c d) out′ used′ nx (l .sound) (rw not) (rw not (subst (λ g. Said (refused g) []) two w))

@@ -1,14 +1,14 @@
 -- Demand 2: whatever the contracts admit, over any calls, is the model's run.
 use mathlib.Core.Path.{_≡_, refl, sym, _∙_, ap, ap₂, subst}
-use mathlib.Core.Bool.{Bool, true, false, cond, _&&_}
+use mathlib.Core.Bool.{Bool, cond, _&&_}
 use mathlib.Core.List.{List, [], _∷_}
 use Prim.Native.Nat.{ℕ}
-use native.Mathlib.Omega.{arith}
 use lib.Dec.{leb}
 use Rattle.lists.specs.Each.{Each}
 use Rattle.answers.specs.Reply.{Reply, done}
 use Rattle.answers.specs.Contract.{lent, refusing}
 use Rattle.answers.specs.Run.{replies, trail}
+use Rattle.answers.proofs.Returns.{listed-by}
 use Rattle.answers.proofs.Coincide.{meets-does}
 use Rattle.model.specs.Model as tasks
 use Rattle.model.specs.Steps as steps
@@ -96,8 +96,7 @@ follows t (k ∷ ks) (o ∷ os) s a =
 
 -- a maker that answers done has made what it was asked for
 done-made : {P : Type 0} (b : Bool) (p q : P) → done ≡ cond b (record { reply = done; after = p }) (refusing 2 q) .reply → cond b (record { reply = done; after = p }) (refusing 2 q) .after ≡ p
-done-made true p q e = refl
-done-made false p q e = let z : _≡_ {A = ℕ} 0 1 = cc in absurd (omega arith)
+done-made b p q e = rw (listed-by p q b e)
 
 module _ (n c : ℕ) (t : Memory) (m : Made n c t) where
   made-sound : AllSound t
@@ -111,7 +110,7 @@ module _ (n c : ℕ) (t : Memory) (m : Made n c t) where
   unfolding tokens.newStep
   made-wakes = m .wakes .after ∙ done-made (wakes-kind.listed c) (tokens.fresh c) (tokens.fresh 2) (m .wakes .reply)
 
-  made-fresh : view t ≡ fresh n c
+  pub made-fresh : view t ≡ fresh n c
   made-fresh = rw (made-tasks, made-wakes, m .waits .after, m .deadlines .after, m .out)
 
   -- every N and C listed, every list of calls, whatever the contracts admit

@@ -4,19 +4,20 @@ use mathlib.Core.List.{List, [], _∷_}
 use mathlib.Core.Option.{some, none}
 use Prim.Native.Nat.{ℕ}
 use native.Mathlib.Omega.{arith}
+use lib.ListN.{getD}
 use Rattle.lists.specs.Tab.{tab}
 use Rattle.lists.specs.Search.{firstAt, countOf}
 use Rattle.ids.specs.declared.TaskId.{TaskId}
 use Rattle.answers.specs.Reply.{Reply, refused, done, named, stays, switched}
-use Rattle.answers.specs.Run.{replies}
-use Rattle.model.specs.Model.{freeSlot}
+use Rattle.answers.specs.Run.{replies, trail}
+use Rattle.model.specs.Model.{freeSlot, occupied}
 use Rattle.model.specs.Steps.{claimed, startStep, admitted, admitStep}
 use Rattle.model.specs.Switch.{yield, leaves, enters, parks, chooses, turn, pulls, switchOn, switchStep}
 use Rattle.model.specs.Calls as task
-use Rattle.runs.specs.Tables.{Call, on-tasks, fresh, step}
-use Rattle.runs.specs.Outcomes.{Memory, Made, Outcome, Admitted, said}
+use Rattle.runs.specs.Tables.{Tables, Call, on-tasks, fresh, step}
+use Rattle.runs.specs.Outcomes.{Memory, Made, Outcome, Admitted, view, said, seen}
 use Rattle.runs.specs.Sheet.{id}
-use Rattle.runs.proofs.Demand2.{demand2}
+use Rattle.runs.proofs.Demand2.{made-fresh, demand2}
 
 -- start, admit one, yield, yield
 abbrev two-yields : List Call
@@ -54,3 +55,12 @@ module _ (t : Memory) (made : Made 4 32 t) (os : List Outcome) (run : Admitted t
 
   pub not-refusing-later : (b c d : ℕ) → said os ≡ done ∷ refused b ∷ refused c ∷ refused d ∷ [] → ⊥
   not-refusing-later b c d e = let f = sym answers-are ∙ e in let z : _≡_ {A = ℕ} 0 1 = cc in omega arith
+
+  -- tables handed back untouched: after the start a slot is occupied
+  pub not-untouched : (o : Outcome) (rest : List Outcome) → os ≡ o ∷ rest → o .tables ≡ t → ⊥
+  unfolding trail step task.step startStep claimed countOf
+  not-untouched o rest e same =
+      let f = sym (demand2 4 32 t made two-yields os run .tables-are) ∙ ap seen e in
+      let g = ap (λ (l : List Tables). occupied (getD l 0 (fresh 4 32) .tasks)) f in
+      let z : _≡_ {A = ℕ} 1 0 = g ∙ ap (λ (m : Memory). occupied (view m .tasks)) same ∙ ap (λ (p : Tables). occupied (p .tasks)) (made-fresh 4 32 t made) in
+      omega arith
