@@ -1,8 +1,9 @@
-//! The same work three ways: the customer's Rust, our exported calls by value, and our calls through the mailbox.
-//! `bench` times all in turns and prints nanoseconds a call with their ratios to the Rust's; `bench WORK WAY ROUNDS` does one of them
+//! The same work five ways: the customer's Rust, and ours by the inner calls on tables known sound, by the calls of the product, by
+//! the exported calls with tables by value, and through the mailbox. `bench` times all in turns and prints nanoseconds a call with
+//! their ratios to the Rust's; `bench agree` only holds the answers of all to the Rust's; `bench WORK WAY ROUNDS` does one of them
 //! alone, for a tool that counts instructions.
 
-use bredumalt::{Mailbox, Operands, Reply, TaskId, mailbox};
+use bredumalt::{Mailbox, Operands, Reply, Table, TaskId, Tasks, WaitTable, WakeQueue, mailbox};
 use oracle::runqueue::TaskId as TheirId;
 use oracle::tasks::Switch;
 use std::hint::black_box;
@@ -34,7 +35,7 @@ trait Side {
     fn pop(&mut self) -> u64;
 }
 
-// ---- the customer's Rust
+// ---- the customer's Rust, whose calls are not inlined into the loops
 
 struct Rust {
     tasks: oracle::tasks::Tasks<N>,
@@ -64,15 +65,19 @@ impl Side for Rust {
             out: [TheirId::new(0, 0); 16],
         }
     }
+    #[inline(never)]
     fn start1(&mut self) -> u64 {
         raw(self.tasks.start_cpu1())
     }
+    #[inline(never)]
     fn admit(&mut self, cpu: u8) -> u64 {
         raw(self.tasks.admit_on(cpu))
     }
+    #[inline(never)]
     fn mark(&mut self, t: TaskId) -> u64 {
         self.tasks.set_stealeable(their(t), true) as u64
     }
+    #[inline(never)]
     fn switch(&mut self, cpu: u8, kind: u8) -> u64 {
         let kind = [Switch::Yield, Switch::Preempt, Switch::Block, Switch::Exit][kind as usize];
         match self.tasks.switch_on(cpu, kind) {
@@ -80,33 +85,43 @@ impl Side for Rust {
             oracle::tasks::Decision::Switch { to, .. } => to.to_raw() as u64,
         }
     }
+    #[inline(never)]
     fn wake(&mut self, t: TaskId) -> u64 {
         self.tasks.wake(their(t)) as u64
     }
+    #[inline(never)]
     fn collect(&mut self) -> u64 {
         raw(self.tasks.collect())
     }
+    #[inline(never)]
     fn steal(&mut self, cpu: u8) -> u64 {
         self.tasks.try_steal_into(cpu) as u64
     }
+    #[inline(never)]
     fn arm(&mut self, cookie: u32, t: TaskId) -> u64 {
         self.waits.arm(cookie, their(t)).is_ok() as u64
     }
+    #[inline(never)]
     fn signal(&mut self, cookie: u32) -> u64 {
         raw(self.waits.signal(cookie))
     }
+    #[inline(never)]
     fn take(&mut self, t: TaskId) -> u64 {
         self.waits.take_pending(their(t)) as u64
     }
+    #[inline(never)]
     fn park(&mut self, t: TaskId, deadline: u64) -> u64 {
         self.deadlines.arm(their(t), deadline).is_ok() as u64
     }
+    #[inline(never)]
     fn poll(&mut self, now: u64) -> u64 {
         self.deadlines.poll(now, &mut self.out) as u64
     }
+    #[inline(never)]
     fn push(&mut self, token: u32) -> u64 {
         self.wakes.push(token) as u64
     }
+    #[inline(never)]
     fn pop(&mut self) -> u64 {
         self.wakes.pop().map_or(u64::MAX, u64::from)
     }
@@ -250,7 +265,73 @@ impl Side for Boxed {
     }
 }
 
+// ---- loops of our own, with no boundary within
+
+/// A loop of crate `repeats` for each work, in the order of `works`: it takes the tables that a work begins from, and gives the sum.
+type Loops = [fn(&Mailbox, u32) -> u64; 8];
+
+/// What the loops of one kind are given beside their tables is what `works` gives the calls.
+macro_rules! loops {
+    ($yield:ident, $mix:ident, $wake:ident, $admit:ident, $steal:ident, $signal:ident, $poll:ident, $push:ident) => {{
+        // SAFETY: the archive has functions of these names and types, and their bools are of this process's making.
+        unsafe extern "C" {
+            fn $yield(t: Tasks, rounds: u32) -> u64;
+            fn $mix(t: Tasks, rounds: u32) -> u64;
+            fn $wake(t: Tasks, id: TaskId, rounds: u32) -> u64;
+            fn $admit(t: Tasks, rounds: u32) -> u64;
+            fn $steal(t: Tasks, rounds: u32) -> u64;
+            fn $signal(w: WaitTable, cookie: u32, id: TaskId, rounds: u32) -> u64;
+            fn $poll(d: Table, id: TaskId, before: u64, deadline: u64, rounds: u32) -> u64;
+            fn $push(q: WakeQueue, token: u32, rounds: u32) -> u64;
+        }
+        let loops: Loops = [
+            |m, rounds| unsafe { $yield(m.tasks, rounds) },
+            |m, rounds| unsafe { $mix(m.tasks, rounds) },
+            |m, rounds| unsafe { $wake(m.tasks, WOKEN, rounds) },
+            |m, rounds| unsafe { $admit(m.tasks, rounds) },
+            |m, rounds| unsafe { $steal(m.tasks, rounds) },
+            |m, rounds| unsafe { $signal(m.waits, COOKIE, WAITS, rounds) },
+            |m, rounds| unsafe { $poll(m.deadlines, PARKED, DUE - 1, DUE, rounds) },
+            |m, rounds| unsafe { $push(m.wakes, TOKEN, rounds) },
+        ];
+        loops
+    }};
+}
+
+fn known() -> Loops {
+    loops!(
+        bredumalt_known_yield,
+        bredumalt_known_mix,
+        bredumalt_known_wake,
+        bredumalt_known_admit,
+        bredumalt_known_steal,
+        bredumalt_known_signal,
+        bredumalt_known_poll,
+        bredumalt_known_push
+    )
+}
+
+fn checked() -> Loops {
+    loops!(
+        bredumalt_checked_yield,
+        bredumalt_checked_mix,
+        bredumalt_checked_wake,
+        bredumalt_checked_admit,
+        bredumalt_checked_steal,
+        bredumalt_checked_signal,
+        bredumalt_checked_poll,
+        bredumalt_checked_push
+    )
+}
+
 // ---- the works
+
+const WOKEN: TaskId = TaskId { slot: 1, epoch: 0 };
+const COOKIE: u32 = 30;
+const WAITS: TaskId = TaskId { slot: 5, epoch: 0 };
+const PARKED: TaskId = TaskId { slot: 3, epoch: 0 };
+const DUE: u64 = 100;
+const TOKEN: u32 = 7;
 
 const YIELD: u8 = 0;
 const PREEMPT: u8 = 1;
@@ -285,14 +366,17 @@ fn works<S: Side>() -> [Work<S>; 8] {
             calls: 8,
             begin: twenty,
             round: |s| {
-                let blocked = s.switch(0, YIELD) as u16;
-                s.admit(1)
-                    + s.switch(0, BLOCK)
-                    + s.switch(1, PREEMPT)
-                    + s.wake(id(blocked))
-                    + s.switch(1, YIELD)
-                    + s.switch(1, EXIT)
-                    + s.collect()
+                let runs = s.switch(0, YIELD);
+                sum([
+                    runs,
+                    s.admit(1),
+                    s.switch(0, BLOCK),
+                    s.switch(1, PREEMPT),
+                    s.wake(id(runs as u16)),
+                    s.switch(1, YIELD),
+                    s.switch(1, EXIT),
+                    s.collect(),
+                ])
             },
         },
         Work {
@@ -305,13 +389,13 @@ fn works<S: Side>() -> [Work<S>; 8] {
                 s
             },
             // the only task but idle: it blocks, is woken, and runs again when idle yields
-            round: |s| s.switch(0, BLOCK) + s.wake(id(1)) + s.switch(0, YIELD),
+            round: |s| sum([s.switch(0, BLOCK), s.wake(WOKEN), s.switch(0, YIELD)]),
         },
         Work {
             name: "admit and exit",
             calls: 4,
             begin: S::new,
-            round: |s| s.admit(0) + s.switch(0, YIELD) + s.switch(0, EXIT) + s.collect(),
+            round: |s| sum([s.admit(0), s.switch(0, YIELD), s.switch(0, EXIT), s.collect()]),
         },
         Work {
             name: "steal",
@@ -324,65 +408,112 @@ fn works<S: Side>() -> [Work<S>; 8] {
                 s
             },
             // there and back
-            round: |s| s.steal(1) + s.steal(0),
+            round: |s| sum([s.steal(1), s.steal(0)]),
         },
-        Work { name: "arm, signal, take", calls: 3, begin: S::new, round: |s| s.arm(30, id(5)) + s.signal(30) + s.take(id(5)) },
+        Work {
+            name: "arm, signal, take",
+            calls: 3,
+            begin: S::new,
+            round: |s| sum([s.arm(COOKIE, WAITS), s.signal(COOKIE), s.take(WAITS)]),
+        },
         Work {
             name: "poll",
             calls: 3,
             begin: || {
                 let mut s = S::new();
                 for slot in 0..8 {
-                    s.park(id(20 + slot), 1000);
+                    s.park(id(20 + slot), 10 * DUE);
                 }
                 s
             },
             // nothing is due, then one is
-            round: |s| s.park(id(3), 100) + s.poll(99) + s.poll(100),
+            round: |s| sum([s.park(PARKED, DUE), s.poll(DUE - 1), s.poll(DUE)]),
         },
-        Work { name: "push and pop", calls: 2, begin: S::new, round: |s| s.push(7) + s.pop() },
+        Work { name: "push and pop", calls: 2, begin: S::new, round: |s| sum([s.push(TOKEN), s.pop()]) },
     ]
 }
 
+/// The sum of what the calls of a round gave, in the order in which they were made.
+fn sum<const K: usize>(gave: [u64; K]) -> u64 {
+    gave.into_iter().fold(0, u64::wrapping_add)
+}
+
 /// Does the work; gives nanoseconds a call and the sum of what the calls gave, which has to be the same on every side.
-fn done<S: Side>(work: &Work<S>, rounds: u64) -> (f64, u64) {
+fn done<S: Side>(work: &Work<S>, rounds: u32) -> (f64, u64) {
     let mut s = black_box((work.begin)());
     let mut sum = 0u64;
     let from = Instant::now();
     for _ in 0..rounds {
         sum = sum.wrapping_add((work.round)(black_box(&mut s)));
     }
-    (from.elapsed().as_nanos() as f64 / (rounds * work.calls) as f64, sum)
+    (per_call(from, work.calls, rounds), sum)
+}
+
+/// The same by a loop of our own.
+fn looped(work: &Work<Value>, run: fn(&Mailbox, u32) -> u64, rounds: u32) -> (f64, u64) {
+    let Value(tables) = black_box((work.begin)());
+    let from = Instant::now();
+    let sum = run(&tables, rounds);
+    (per_call(from, work.calls, rounds), sum)
+}
+
+fn per_call(from: Instant, calls: u64, rounds: u32) -> f64 {
+    from.elapsed().as_nanos() as f64 / (u64::from(rounds) * calls) as f64
+}
+
+const WAYS: [&str; 5] = ["rust", "known", "checked", "value", "mailbox"];
+
+/// The work of a number by the way of a number.
+fn run(work: usize, way: usize, rounds: u32) -> (f64, u64) {
+    match way {
+        0 => done(&works::<Rust>()[work], rounds),
+        1 => looped(&works()[work], known()[work], rounds),
+        2 => looped(&works()[work], checked()[work], rounds),
+        3 => done(&works::<Value>()[work], rounds),
+        _ => done(&works::<Boxed>()[work], rounds),
+    }
+}
+
+/// A work by every way; they have to answer the same.
+fn by_all(work: usize, name: &str, rounds: u32) -> [f64; WAYS.len()] {
+    let got: [_; WAYS.len()] = std::array::from_fn(|way| run(work, way, rounds));
+    for (way, g) in WAYS.iter().zip(got) {
+        assert_eq!(g.1, got[0].1, "{name}: {way} answers differently from the Rust");
+    }
+    got.map(|g| g.0)
 }
 
 fn main() {
+    let names = works::<Rust>().map(|w| w.name);
     let args: Vec<String> = std::env::args().skip(1).collect();
-    let (rust, value, boxed) = (works::<Rust>(), works::<Value>(), works::<Boxed>());
     if let [name, way, rounds] = &args[..] {
-        let i = rust.iter().position(|w| w.name == name).expect("a work");
-        let rounds = rounds.parse().expect("a number");
-        let sum = match way.as_str() {
-            "rust" => done(&rust[i], rounds).1,
-            "value" => done(&value[i], rounds).1,
-            "mailbox" => done(&boxed[i], rounds).1,
-            _ => panic!("rust, value or mailbox"),
-        };
-        println!("{sum}");
+        let work = names.iter().position(|n| n == name).expect("a work");
+        let way = WAYS.iter().position(|w| w == way).expect("rust, known, checked, value or mailbox");
+        println!("{}", run(work, way, rounds.parse().expect("a number")).1);
         return;
     }
-    println!("| work | the Rust, ns a call | by value | mailbox | by value / Rust | mailbox / Rust |\n|---|---|---|---|---|---|");
-    for ((r, v), b) in rust.iter().zip(&value).zip(&boxed) {
-        let rounds = 100_000;
+    if args == ["agree"] {
+        for (work, name) in names.iter().enumerate() {
+            by_all(work, name, 70_000);
+        }
+        println!("bench: {} works answer the same in {} ways", names.len(), WAYS.len());
+        return;
+    }
+    assert!(args.is_empty(), "usage: bench [agree | WORK WAY ROUNDS]");
+    println!(
+        "| work | the Rust, ns a call | known sound | checked | by value | mailbox | known / Rust | checked / Rust | by value / Rust | mailbox / Rust |"
+    );
+    println!("|---|---|---|---|---|---|---|---|---|---|");
+    for (work, name) in names.iter().enumerate() {
         // in turns, and the fastest of each, so that what else the machine does counts little
-        let mut best = [f64::MAX; 3];
+        let mut best = [f64::MAX; WAYS.len()];
         for _ in 0..15 {
-            let got = [done(r, rounds), done(v, rounds), done(b, rounds)];
-            assert!(got.iter().all(|g| g.1 == got[0].1), "{}: the sides answer differently", r.name);
-            for (b, g) in best.iter_mut().zip(got) {
-                *b = b.min(g.0);
+            for (b, ns) in best.iter_mut().zip(by_all(work, name, 100_000)) {
+                *b = b.min(ns);
             }
         }
-        let [r_ns, v_ns, b_ns] = best;
-        println!("| {} | {r_ns:.1} | {v_ns:.1} | {b_ns:.1} | {:.1} | {:.1} |", r.name, v_ns / r_ns, b_ns / r_ns);
+        let figures = best.map(|ns| format!("{ns:.1}")).join(" | ");
+        let ratios: Vec<String> = best[1..].iter().map(|ns| format!("{:.1}", ns / best[0])).collect();
+        println!("| {name} | {figures} | {} |", ratios.join(" | "));
     }
 }

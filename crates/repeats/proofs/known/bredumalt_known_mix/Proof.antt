@@ -1,0 +1,116 @@
+-- The test before the loop says that the table is sound, and every call hands back a sound one.
+use borrow.Author.Tests.{not-false}
+use native.Mathlib.Omega.{arith}
+use borrow.Author.Needs.{needs}
+use Rattle.memory.specs.View.{Sound}
+use Rattle.repeats.proofs.known.bredumalt_known_mix.Statement.{statement}
+use Rattle.repeats.proofs.known.bredumalt_known_mix.Tie as tie
+
+abbrev Inv-loop : tie.InvT-loop
+Inv-loop rounds t₀ sum₀ left₀ t sum left = Sound t
+
+abbrev μ-loop : tie.MeasureT-loop
+μ-loop rounds t₀ sum₀ left₀ t sum left = left
+
+sound-requires : tie.Need-sound-requires Inv-loop μ-loop
+sound-requires c κs = tt
+
+returns : tie.Need-returns Inv-loop μ-loop
+returns c = tt
+
+loop-holds : tie.Need-loop-holds Inv-loop μ-loop
+loop-holds c = c .before .sound .ensures .true-is (not-false _ (c .if1 .left))
+
+sub-left : tie.Need-sub-left Inv-loop μ-loop
+sub-left c = search needs
+
+switch-on-in-requires : tie.Need-switch-on-in-requires Inv-loop μ-loop
+switch-on-in-requires c κs = search needs
+
+runs-requires : tie.Need-runs-requires Inv-loop μ-loop
+runs-requires c κs = tt
+
+decided-requires : tie.Need-decided-requires Inv-loop μ-loop
+decided-requires c κs = tt
+
+admit-on-in-requires : tie.Need-admit-on-in-requires Inv-loop μ-loop
+admit-on-in-requires c κs = search needs
+
+named-requires : tie.Need-named-requires Inv-loop μ-loop
+named-requires c κs = tt
+
+switch-on-in-requires-2 : tie.Need-switch-on-in-requires-2 Inv-loop μ-loop
+switch-on-in-requires-2 c κs = search needs
+
+decided-requires-2 : tie.Need-decided-requires-2 Inv-loop μ-loop
+decided-requires-2 c κs = tt
+
+switch-on-in-requires-3 : tie.Need-switch-on-in-requires-3 Inv-loop μ-loop
+switch-on-in-requires-3 c κs = search needs
+
+decided-requires-3 : tie.Need-decided-requires-3 Inv-loop μ-loop
+decided-requires-3 c κs = tt
+
+wake-in-requires : tie.Need-wake-in-requires Inv-loop μ-loop
+wake-in-requires c κs = search needs
+
+told-requires : tie.Need-told-requires Inv-loop μ-loop
+told-requires c κs = tt
+
+switch-on-in-requires-4 : tie.Need-switch-on-in-requires-4 Inv-loop μ-loop
+switch-on-in-requires-4 c κs = search needs
+
+decided-requires-4 : tie.Need-decided-requires-4 Inv-loop μ-loop
+decided-requires-4 c κs = tt
+
+switch-on-in-requires-5 : tie.Need-switch-on-in-requires-5 Inv-loop μ-loop
+switch-on-in-requires-5 c κs = search needs
+
+decided-requires-5 : tie.Need-decided-requires-5 Inv-loop μ-loop
+decided-requires-5 c κs = tt
+
+collect-in-requires : tie.Need-collect-in-requires Inv-loop μ-loop
+collect-in-requires c κs = search needs
+
+named-requires-2 : tie.Need-named-requires-2 Inv-loop μ-loop
+named-requires-2 c κs = tt
+
+loop-less : tie.Need-loop-less Inv-loop μ-loop
+loop-less c = omega (arith, c .before .before .before .before .before .before .before .before .before .before .before .before .before .before .before .before .before .before .before .before .before .before .before .before .before .loop-test .taken)
+
+loop-again : tie.Need-loop-again Inv-loop μ-loop
+loop-again c = search needs
+
+returns-2 : tie.Need-returns-2 Inv-loop μ-loop
+returns-2 c = tt
+
+pub bredumalt-known-mix-spec : {M : Type 1} → statement M
+bredumalt-known-mix-spec =
+    tie.close
+    (tie.spec
+    Inv-loop
+    μ-loop
+    sound-requires
+    returns
+    loop-holds
+    sub-left
+    switch-on-in-requires
+    runs-requires
+    decided-requires
+    admit-on-in-requires
+    named-requires
+    switch-on-in-requires-2
+    decided-requires-2
+    switch-on-in-requires-3
+    decided-requires-3
+    wake-in-requires
+    told-requires
+    switch-on-in-requires-4
+    decided-requires-4
+    switch-on-in-requires-5
+    decided-requires-5
+    collect-in-requires
+    named-requires-2
+    loop-less
+    loop-again
+    returns-2)
