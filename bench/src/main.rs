@@ -3,7 +3,7 @@
 //! their ratios to the Rust's; `bench agree` only holds the answers of all to the Rust's; `bench WORK WAY ROUNDS` does one of them
 //! alone, for a tool that counts instructions.
 
-use bredumalt::{Mailbox, Operands, Reply, Table, TaskId, Tasks, WaitTable, WakeQueue, mailbox};
+use bredumalt::{Cookie, Mailbox, Operands, Reply, Table, TaskId, Tasks, Token, WaitTable, WakeQueue, mailbox};
 use oracle::runqueue::TaskId as TheirId;
 use oracle::tasks::Switch;
 use std::hint::black_box;
@@ -181,10 +181,10 @@ impl Side for Value {
         by_value!(self, tasks, tasks, bredumalt::tasks::try_steal_into(self.0.tasks, cpu))
     }
     fn arm(&mut self, cookie: u32, t: TaskId) -> u64 {
-        by_value!(self, waits, table, bredumalt::irqwait::arm(self.0.waits, cookie, t))
+        by_value!(self, waits, table, bredumalt::irqwait::arm(self.0.waits, Cookie(cookie), t))
     }
     fn signal(&mut self, cookie: u32) -> u64 {
-        by_value!(self, waits, table, bredumalt::irqwait::signal(self.0.waits, cookie))
+        by_value!(self, waits, table, bredumalt::irqwait::signal(self.0.waits, Cookie(cookie)))
     }
     fn take(&mut self, t: TaskId) -> u64 {
         by_value!(self, waits, table, bredumalt::irqwait::take_pending(self.0.waits, t))
@@ -196,7 +196,7 @@ impl Side for Value {
         by_value!(self, deadlines, table, bredumalt::parktime::poll(self.0.deadlines, now, &mut self.0.out))
     }
     fn push(&mut self, token: u32) -> u64 {
-        by_value!(self, wakes, queue, bredumalt::wake::push(self.0.wakes, token))
+        by_value!(self, wakes, queue, bredumalt::wake::push(self.0.wakes, Token(token)))
     }
     fn pop(&mut self) -> u64 {
         by_value!(self, wakes, queue, bredumalt::wake::pop(self.0.wakes))
@@ -242,11 +242,11 @@ impl Side for Boxed {
     fn steal(&mut self, cpu: u8) -> u64 {
         self.call(Operands { call: mailbox::TASKS_TRY_STEAL_INTO, cpu, ..NONE })
     }
-    fn arm(&mut self, word: u32, id: TaskId) -> u64 {
-        self.call(Operands { call: mailbox::IRQWAIT_ARM, word, id, ..NONE })
+    fn arm(&mut self, cookie: u32, id: TaskId) -> u64 {
+        self.call(Operands { call: mailbox::IRQWAIT_ARM, cookie: Cookie(cookie), id, ..NONE })
     }
-    fn signal(&mut self, word: u32) -> u64 {
-        self.call(Operands { call: mailbox::IRQWAIT_SIGNAL, word, ..NONE })
+    fn signal(&mut self, cookie: u32) -> u64 {
+        self.call(Operands { call: mailbox::IRQWAIT_SIGNAL, cookie: Cookie(cookie), ..NONE })
     }
     fn take(&mut self, id: TaskId) -> u64 {
         self.call(Operands { call: mailbox::IRQWAIT_TAKE_PENDING, id, ..NONE })
@@ -257,8 +257,8 @@ impl Side for Boxed {
     fn poll(&mut self, time: u64) -> u64 {
         self.call(Operands { call: mailbox::PARKTIME_POLL, time, ..NONE })
     }
-    fn push(&mut self, word: u32) -> u64 {
-        self.call(Operands { call: mailbox::WAKE_PUSH, word, ..NONE })
+    fn push(&mut self, token: u32) -> u64 {
+        self.call(Operands { call: mailbox::WAKE_PUSH, token: Token(token), ..NONE })
     }
     fn pop(&mut self) -> u64 {
         self.call(Operands { call: mailbox::WAKE_POP, ..NONE })
@@ -355,28 +355,31 @@ struct Work<S> {
     name: &'static str,
     calls: u64,
     begin: fn() -> S,
-    round: fn(&mut S) -> u64,
+    round: fn(&mut S, u64) -> u64,
 }
 
 fn works<S: Side>() -> [Work<S>; 8] {
     [
-        Work { name: "yield", calls: 1, begin: twenty, round: |s| s.switch(0, YIELD) },
+        Work { name: "yield", calls: 1, begin: twenty, round: |s, sum| plus(sum, s.switch(0, YIELD)) },
         Work {
             name: "mix",
             calls: 8,
             begin: twenty,
-            round: |s| {
+            round: |s, sum| {
                 let runs = s.switch(0, YIELD);
-                sum([
-                    runs,
-                    s.admit(1),
-                    s.switch(0, BLOCK),
-                    s.switch(1, PREEMPT),
-                    s.wake(id(runs as u16)),
-                    s.switch(1, YIELD),
-                    s.switch(1, EXIT),
-                    s.collect(),
-                ])
+                all(
+                    sum,
+                    [
+                        runs,
+                        s.admit(1),
+                        s.switch(0, BLOCK),
+                        s.switch(1, PREEMPT),
+                        s.wake(id(runs as u16)),
+                        s.switch(1, YIELD),
+                        s.switch(1, EXIT),
+                        s.collect(),
+                    ],
+                )
             },
         },
         Work {
@@ -389,13 +392,13 @@ fn works<S: Side>() -> [Work<S>; 8] {
                 s
             },
             // the only task but idle: it blocks, is woken, and runs again when idle yields
-            round: |s| sum([s.switch(0, BLOCK), s.wake(WOKEN), s.switch(0, YIELD)]),
+            round: |s, sum| all(sum, [s.switch(0, BLOCK), s.wake(WOKEN), s.switch(0, YIELD)]),
         },
         Work {
             name: "admit and exit",
             calls: 4,
             begin: S::new,
-            round: |s| sum([s.admit(0), s.switch(0, YIELD), s.switch(0, EXIT), s.collect()]),
+            round: |s, sum| all(sum, [s.admit(0), s.switch(0, YIELD), s.switch(0, EXIT), s.collect()]),
         },
         Work {
             name: "steal",
@@ -408,13 +411,13 @@ fn works<S: Side>() -> [Work<S>; 8] {
                 s
             },
             // there and back
-            round: |s| sum([s.steal(1), s.steal(0)]),
+            round: |s, sum| all(sum, [s.steal(1), s.steal(0)]),
         },
         Work {
             name: "arm, signal, take",
             calls: 3,
             begin: S::new,
-            round: |s| sum([s.arm(COOKIE, WAITS), s.signal(COOKIE), s.take(WAITS)]),
+            round: |s, sum| all(sum, [s.arm(COOKIE, WAITS), s.signal(COOKIE), s.take(WAITS)]),
         },
         Work {
             name: "poll",
@@ -427,15 +430,20 @@ fn works<S: Side>() -> [Work<S>; 8] {
                 s
             },
             // nothing is due, then one is
-            round: |s| sum([s.park(PARKED, DUE), s.poll(DUE - 1), s.poll(DUE)]),
+            round: |s, sum| all(sum, [s.park(PARKED, DUE), s.poll(DUE - 1), s.poll(DUE)]),
         },
-        Work { name: "push and pop", calls: 2, begin: S::new, round: |s| sum([s.push(TOKEN), s.pop()]) },
+        Work { name: "push and pop", calls: 2, begin: S::new, round: |s, sum| all(sum, [s.push(TOKEN), s.pop()]) },
     ]
 }
 
-/// The sum of what the calls of a round gave, in the order in which they were made.
-fn sum<const K: usize>(gave: [u64; K]) -> u64 {
-    gave.into_iter().fold(0, u64::wrapping_add)
+/// A sum, turned by a bit so that the order counts, and a number added to it.
+fn plus(sum: u64, n: u64) -> u64 {
+    sum.rotate_left(1).wrapping_add(n)
+}
+
+/// Likewise for what the calls of a round gave, in the order in which they were made.
+fn all<const K: usize>(sum: u64, gave: [u64; K]) -> u64 {
+    gave.into_iter().fold(sum, plus)
 }
 
 /// Does the work; gives nanoseconds a call and the sum of what the calls gave, which has to be the same on every side.
@@ -444,7 +452,7 @@ fn done<S: Side>(work: &Work<S>, rounds: u32) -> (f64, u64) {
     let mut sum = 0u64;
     let from = Instant::now();
     for _ in 0..rounds {
-        sum = sum.wrapping_add((work.round)(black_box(&mut s)));
+        sum = (work.round)(black_box(&mut s), sum);
     }
     (per_call(from, work.calls, rounds), sum)
 }

@@ -1,84 +1,69 @@
-/* A task is admitted, runs, waits for an interrupt, and is woken by it; hello.rs does the same and prints the same. */
+/* A task is admitted, runs, waits for an interrupt, and is woken by it. hello.rs and mailbox.c do the same, and print the same.
+ * Each answer is looked at before anything of it is used: the refusal first, then the flag or the kind. */
 #include "bredumalt.h"
 #include <stdio.h>
 
-static void show(const char *what, bredumalt_answer a) {
-    printf("%s:", what);
-    if (a.refusal != 0) {
-        printf(" refused %u\n", a.refusal);
-        return;
-    }
-    switch (a.kind) {
-    case 0:
-        printf(" done");
-        break;
-    case 1:
-        printf(a.flag ? " true" : " false");
-        break;
-    case 2:
-        printf(" %llu", (unsigned long long)a.number);
-        break;
-    case 3:
-        if (a.flag)
-            printf(" %u/%u", a.first.slot, a.first.epoch);
-        else
-            printf(" none");
-        break;
-    case 4:
-        if (a.flag)
-            printf(" %llu", (unsigned long long)a.number);
-        else
-            printf(" none");
-        break;
-    case 5:
-        printf(" stay");
-        break;
-    case 6:
-        printf(" %u/%u to %u/%u", a.first.slot, a.first.epoch, a.second.slot, a.second.epoch);
-        break;
-    }
-    printf("\n");
-}
-
 int main(void) {
-    bredumalt_tasks t = bredumalt_tasks_new(57).tasks;
-    bredumalt_wait_table waits = bredumalt_irqwait_new();
-    bredumalt_wake_queue wakes = bredumalt_wake_new(32).queue;
+    bredumalt_tasks_answer got = bredumalt_tasks_new(57);
+    if (got.answer.refusal != BREDUMALT_REFUSAL_NONE)
+        return 1;
+    got = bredumalt_tasks_start(got.tasks);
+    if (got.answer.refusal != BREDUMALT_REFUSAL_NONE)
+        return 1;
 
-    bredumalt_tasks_answer got = bredumalt_tasks_start(t);
-    t = got.tasks;
-    show("start", got.answer);
-
-    got = bredumalt_tasks_admit(t);
-    t = got.tasks;
+    got = bredumalt_tasks_admit(got.tasks);
+    if (got.answer.refusal != BREDUMALT_REFUSAL_NONE || !got.answer.flag)
+        return 1;
+    printf("admit: %u/%u\n", got.answer.first.slot, got.answer.first.epoch);
     bredumalt_task_id task = got.answer.first;
-    show("admit", got.answer);
 
-    got = bredumalt_tasks_switch(t, BREDUMALT_YIELD);
-    t = got.tasks;
-    show("yield", got.answer);
+    got = bredumalt_tasks_switch(got.tasks, BREDUMALT_YIELD);
+    if (got.answer.refusal != BREDUMALT_REFUSAL_NONE || got.answer.kind != BREDUMALT_ANSWER_SWITCH)
+        return 1;
+    printf("yield: to %u/%u\n", got.answer.second.slot, got.answer.second.epoch);
 
     /* The task waits for interrupt 30. */
-    bredumalt_waits_answer waiting = bredumalt_irqwait_arm(waits, 30, task);
-    waits = waiting.table;
-    show("arm", waiting.answer);
-    got = bredumalt_tasks_switch(t, BREDUMALT_BLOCK);
-    t = got.tasks;
-    show("block", got.answer);
+    bredumalt_cookie cookie = {30};
+    bredumalt_waits_answer waits = bredumalt_irqwait_arm(bredumalt_irqwait_new(), cookie, task);
+    if (waits.answer.refusal != BREDUMALT_REFUSAL_NONE)
+        return 1;
+    got = bredumalt_tasks_switch(got.tasks, BREDUMALT_BLOCK);
+    if (got.answer.refusal != BREDUMALT_REFUSAL_NONE || got.answer.kind != BREDUMALT_ANSWER_SWITCH)
+        return 1;
+    printf("block: to %u/%u\n", got.answer.second.slot, got.answer.second.epoch);
 
-    /* The interrupt comes: its handler pushes the waiter's token, and the scheduler wakes who it names. */
-    waiting = bredumalt_irqwait_signal(waits, 30);
-    show("signal", waiting.answer);
-    wakes = bredumalt_wake_push(wakes, bredumalt_ids_to_raw(waiting.answer.first)).queue;
-    bredumalt_wakes_answer popped = bredumalt_wake_pop(wakes);
-    show("pop", popped.answer);
-    got = bredumalt_tasks_wake(t, bredumalt_ids_from_raw((uint32_t)popped.answer.number));
-    t = got.tasks;
-    show("wake", got.answer);
+    /* The interrupt comes: its handler pushes the waiter's token. */
+    bredumalt_wakes_answer wakes = bredumalt_wake_new(32);
+    if (wakes.answer.refusal != BREDUMALT_REFUSAL_NONE)
+        return 1;
+    waits = bredumalt_irqwait_signal(waits.table, cookie);
+    if (waits.answer.refusal != BREDUMALT_REFUSAL_NONE || !waits.answer.flag)
+        return 1;
+    wakes = bredumalt_wake_push(wakes.queue, bredumalt_ids_to_raw(waits.answer.first));
+    if (wakes.answer.refusal != BREDUMALT_REFUSAL_NONE || !wakes.answer.flag)
+        return 1;
 
-    /* Nobody may be woken twice, and a kind of switch that there is not is refused. */
-    show("again", bredumalt_tasks_wake(t, task).answer);
-    show("kind 4", bredumalt_tasks_switch(t, 4).answer);
-    show("state", bredumalt_tasks_state(t, task));
+    /* The scheduler wakes whom the token names; nobody is woken twice. */
+    wakes = bredumalt_wake_pop(wakes.queue);
+    if (wakes.answer.refusal != BREDUMALT_REFUSAL_NONE || !wakes.answer.flag)
+        return 1;
+    bredumalt_token token = {(uint32_t)wakes.answer.number};
+    printf("token: %u\n", token.number);
+    got = bredumalt_tasks_wake(got.tasks, bredumalt_ids_from_raw(token));
+    if (got.answer.refusal != BREDUMALT_REFUSAL_NONE)
+        return 1;
+    printf("wake: %s\n", got.answer.flag ? "true" : "false");
+    got = bredumalt_tasks_wake(got.tasks, task);
+    if (got.answer.refusal != BREDUMALT_REFUSAL_NONE)
+        return 1;
+    printf("wake again: %s\n", got.answer.flag ? "true" : "false");
+
+    /* 4 is no kind of switch; the table comes back as it was, and the task is Ready still. */
+    got = bredumalt_tasks_switch(got.tasks, 4);
+    if (got.answer.refusal == BREDUMALT_REFUSAL_BAD_LINE)
+        printf("kind 4: refused\n");
+    bredumalt_answer state = bredumalt_tasks_state(got.tasks, task);
+    if (state.refusal == BREDUMALT_REFUSAL_NONE && state.flag && state.number == BREDUMALT_READY)
+        printf("state: Ready\n");
     return 0;
 }

@@ -1,60 +1,52 @@
-//! A task is admitted, runs, waits for an interrupt, and is woken by it; `hello.c` does the same and prints the same.
+//! A task is admitted, runs, waits for an interrupt, and is woken by it. `hello.c` and `mailbox.c` do the same, and print the same.
+//! Each answer is looked at before anything of it is used.
 use bredumalt::*;
 
-fn show(what: &str, answer: Answer) {
-    print!("{what}:");
-    match answer.reply() {
-        Reply::Refused(no) => print!(" refused {no}"),
-        Reply::Done => print!(" done"),
-        Reply::Told(b) => print!(" {b}"),
-        Reply::Number(v) => print!(" {v}"),
-        Reply::Named(Some(t)) => print!(" {}/{}", t.slot, t.epoch),
-        Reply::Value(Some(v)) => print!(" {v}"),
-        Reply::Named(None) | Reply::Value(None) => print!(" none"),
-        Reply::Stay => print!(" stay"),
-        Reply::Switch { from, to, .. } => print!(" {}/{} to {}/{}", from.slot, from.epoch, to.slot, to.epoch),
-    }
-    println!();
-}
-
 fn main() {
-    let mut t = tasks::new(57).tasks;
-    let mut waits = irqwait::new();
-    let mut wakes = wake::new(32).queue;
+    let made = tasks::new(57);
+    assert_eq!(made.answer.reply(), Reply::Done);
+    let got = tasks::start(made.tasks);
+    assert_eq!(got.answer.reply(), Reply::Done);
 
-    let got = tasks::start(t);
-    t = got.tasks;
-    show("start", got.answer);
-
-    let got = tasks::admit(t);
-    t = got.tasks;
-    let task = got.answer.first;
-    show("admit", got.answer);
-
-    let got = tasks::switch(t, YIELD);
-    t = got.tasks;
-    show("yield", got.answer);
+    let got = tasks::admit(got.tasks);
+    let Reply::Named(Some(task)) = got.answer.reply() else { panic!("no slot is free") };
+    println!("admit: {}/{}", task.slot, task.epoch);
+    let got = tasks::switch(got.tasks, YIELD);
+    let Reply::Switch { to, .. } = got.answer.reply() else { panic!("nobody else is ready") };
+    println!("yield: to {}/{}", to.slot, to.epoch);
 
     // The task waits for interrupt 30.
-    let got = irqwait::arm(waits, 30, task);
-    waits = got.table;
-    show("arm", got.answer);
-    let got = tasks::switch(t, BLOCK);
-    t = got.tasks;
-    show("block", got.answer);
+    let armed = irqwait::arm(irqwait::new(), Cookie(30), task);
+    assert_eq!(armed.answer.reply(), Reply::Done);
+    let got = tasks::switch(got.tasks, BLOCK);
+    let Reply::Switch { to, .. } = got.answer.reply() else { panic!("idle does not block") };
+    println!("block: to {}/{}", to.slot, to.epoch);
 
-    // The interrupt comes: its handler pushes the waiter's token, and the scheduler wakes who it names.
-    let got = irqwait::signal(waits, 30);
-    show("signal", got.answer);
-    wakes = wake::push(wakes, ids::to_raw(got.answer.first)).queue;
-    let got = wake::pop(wakes);
-    show("pop", got.answer);
-    let got = tasks::wake(t, ids::from_raw(got.answer.number as u32));
-    t = got.tasks;
-    show("wake", got.answer);
+    // The interrupt comes: its handler pushes the waiter's token.
+    let made = wake::new(32);
+    assert_eq!(made.answer.reply(), Reply::Done);
+    let signalled = irqwait::signal(armed.table, Cookie(30));
+    let Reply::Named(Some(waiter)) = signalled.answer.reply() else { panic!("nobody waits") };
+    let pushed = wake::push(made.queue, ids::to_raw(waiter));
+    assert_eq!(pushed.answer.reply(), Reply::Told(true), "a token was dropped");
 
-    // Nobody may be woken twice, and a kind of switch that there is not is refused.
-    show("again", tasks::wake(t, task).answer);
-    show("kind 4", tasks::switch(t, 4).answer);
-    show("state", tasks::state(t, task));
+    // The scheduler wakes whom the token names; nobody is woken twice.
+    let popped = wake::pop(pushed.queue);
+    let Reply::Value(Some(token)) = popped.answer.reply() else { panic!("no token is there") };
+    println!("token: {token}");
+    let got = tasks::wake(got.tasks, ids::from_raw(Token(token as u32)));
+    let Reply::Told(woken) = got.answer.reply() else { panic!("the table is refused") };
+    println!("wake: {woken}");
+    let got = tasks::wake(got.tasks, task);
+    let Reply::Told(woken) = got.answer.reply() else { panic!("the table is refused") };
+    println!("wake again: {woken}");
+
+    // 4 is no kind of switch; the table comes back as it was, and the task is Ready still.
+    let got = tasks::switch(got.tasks, 4);
+    if got.answer.reply() == Reply::Refused(refusal::BAD_LINE) {
+        println!("kind 4: refused");
+    }
+    if tasks::state(got.tasks, task).reply() == Reply::Value(Some(READY as u64)) {
+        println!("state: Ready");
+    }
 }

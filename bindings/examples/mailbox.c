@@ -1,68 +1,66 @@
-/* The same story as hello.c, through one pointer; it prints the same. */
+/* The story of hello.c through one pointer: the tables stay in the mailbox, and each call leaves its answer there. */
 #include "bredumalt.h"
 #include <stdio.h>
-#include <string.h>
 
+/* All 0, so that the tables are just made once they have their sizes. */
 static bredumalt_mailbox m;
 
-static bredumalt_answer done(uint8_t call) {
+/* Does a call, and tells whether it was not refused. */
+static bool done(uint8_t call) {
     m.operands.call = call;
     bredumalt_mailbox_call(&m);
-    return m.answer;
-}
-
-static void show(const char *what, bredumalt_answer a) {
-    printf("%s:", what);
-    if (a.refusal != 0)
-        printf(" refused %u", a.refusal);
-    else if (a.kind == 0)
-        printf(" done");
-    else if (a.kind == 1)
-        printf(a.flag ? " true" : " false");
-    else if (a.kind == 5)
-        printf(" stay");
-    else if (a.kind == 6)
-        printf(" %u/%u to %u/%u", a.first.slot, a.first.epoch, a.second.slot, a.second.epoch);
-    else if (a.kind != 2 && !a.flag)
-        printf(" none");
-    else if (a.kind == 3)
-        printf(" %u/%u", a.first.slot, a.first.epoch);
-    else
-        printf(" %llu", (unsigned long long)a.number);
-    printf("\n");
+    return m.answer.refusal == BREDUMALT_REFUSAL_NONE;
 }
 
 int main(void) {
-    memset(&m, 0, sizeof m);
     m.tasks.n = 57;
     m.wakes.c = 32;
+    if (!done(BREDUMALT_CALL_TASKS_START))
+        return 1;
 
-    show("start", done(BREDUMALT_CALL_TASKS_START));
-    bredumalt_answer a = done(BREDUMALT_CALL_TASKS_ADMIT_ON);
-    show("admit", a);
-    bredumalt_task_id task = a.first;
+    m.operands.cpu = 0;
+    if (!done(BREDUMALT_CALL_TASKS_ADMIT_ON) || !m.answer.flag)
+        return 1;
+    bredumalt_task_id task = m.answer.first;
+    printf("admit: %u/%u\n", task.slot, task.epoch);
     m.operands.kind = BREDUMALT_YIELD;
-    show("yield", done(BREDUMALT_CALL_TASKS_SWITCH_ON));
+    if (!done(BREDUMALT_CALL_TASKS_SWITCH_ON) || m.answer.kind != BREDUMALT_ANSWER_SWITCH)
+        return 1;
+    printf("yield: to %u/%u\n", m.answer.second.slot, m.answer.second.epoch);
 
-    m.operands.word = 30;
+    m.operands.cookie = (bredumalt_cookie){30};
     m.operands.id = task;
-    show("arm", done(BREDUMALT_CALL_IRQWAIT_ARM));
+    if (!done(BREDUMALT_CALL_IRQWAIT_ARM))
+        return 1;
     m.operands.kind = BREDUMALT_BLOCK;
-    show("block", done(BREDUMALT_CALL_TASKS_SWITCH_ON));
+    if (!done(BREDUMALT_CALL_TASKS_SWITCH_ON) || m.answer.kind != BREDUMALT_ANSWER_SWITCH)
+        return 1;
+    printf("block: to %u/%u\n", m.answer.second.slot, m.answer.second.epoch);
 
-    a = done(BREDUMALT_CALL_IRQWAIT_SIGNAL);
-    show("signal", a);
-    m.operands.word = (uint32_t)a.first.epoch * 65536 + a.first.slot;
-    done(BREDUMALT_CALL_WAKE_PUSH);
-    a = done(BREDUMALT_CALL_WAKE_POP);
-    show("pop", a);
-    m.operands.id.slot = (uint16_t)(a.number % 65536);
-    m.operands.id.epoch = (uint16_t)(a.number / 65536);
-    show("wake", done(BREDUMALT_CALL_TASKS_WAKE));
+    /* The cookie stands there still. A token is packed as bredumalt_ids_to_raw would. */
+    if (!done(BREDUMALT_CALL_IRQWAIT_SIGNAL) || !m.answer.flag)
+        return 1;
+    m.operands.token = (bredumalt_token){(uint32_t)m.answer.first.epoch * 65536 + m.answer.first.slot};
+    if (!done(BREDUMALT_CALL_WAKE_PUSH) || !m.answer.flag)
+        return 1;
 
-    show("again", done(BREDUMALT_CALL_TASKS_WAKE));
+    if (!done(BREDUMALT_CALL_WAKE_POP) || !m.answer.flag)
+        return 1;
+    uint32_t token = (uint32_t)m.answer.number;
+    printf("token: %u\n", token);
+    m.operands.id.slot = (uint16_t)(token % 65536);
+    m.operands.id.epoch = (uint16_t)(token / 65536);
+    if (!done(BREDUMALT_CALL_TASKS_WAKE))
+        return 1;
+    printf("wake: %s\n", m.answer.flag ? "true" : "false");
+    if (!done(BREDUMALT_CALL_TASKS_WAKE))
+        return 1;
+    printf("wake again: %s\n", m.answer.flag ? "true" : "false");
+
     m.operands.kind = 4;
-    show("kind 4", done(BREDUMALT_CALL_TASKS_SWITCH_ON));
-    show("state", done(BREDUMALT_CALL_TASKS_STATE));
+    if (!done(BREDUMALT_CALL_TASKS_SWITCH_ON) && m.answer.refusal == BREDUMALT_REFUSAL_BAD_LINE)
+        printf("kind 4: refused\n");
+    if (done(BREDUMALT_CALL_TASKS_STATE) && m.answer.flag && m.answer.number == BREDUMALT_READY)
+        printf("state: Ready\n");
     return 0;
 }

@@ -1,22 +1,25 @@
 /* Bredumalt over the C boundary: the scheduling core of a managed Ethernet switch, proved in Rattle.
  *
- * Link libabi.a, libabi_leaves.a and libmailbox.a of target/staticlib (rt staticlib NAME writes each; x86-64).
+ * Link libabi.a, libabi_leaves.a and libmailbox.a of target/staticlib (rt staticlib NAME writes each). They are for x86-64 with the
+ * System V calling convention, and need of the firmware:
+ *   - memcpy, memmove and memset of its C library; these three are all that nm -u shows;
+ *   - SSE registers, switched on, and saved by whoever interrupts;
+ *   - the red zone: interrupts leave the 128 bytes below the stack pointer alone, or have a stack of their own;
+ *   - stack: a call by value takes at most 8 KB, the tables that go in and come back counted once, and
+ *     a call through a mailbox takes at most 20 KB; what the three functions above take comes on top.
+ * They keep no data of their own. bindings/check.sh holds the archives to this.
  *
  * Tables go in and come back by value. Every call takes any bits whatever, with one limit: a bool must be 0 or 1 (padding counts for
  * nothing). A table that is not sound is refused with 1; a call that refuses hands every table and every lent buffer back as it was
- * given. A pointer must point to what it says, of which nobody else may make use until the call returns.
- *
- * Refusals: 1 BadTable, 2 BadSize, 3 NotStarted, 4 Again, 5 BadCpu, 6 CpuOff, 7 ShortOut, 8 BadTask, 9 CookieBusy, 10 TaskBusy,
- * 11 Full, 12 a number that names nothing (a kind of switch, a mailbox's call). 13 is of the program events and is never given here.
- *
- * Kinds of answer: 0 nothing to tell, 1 true or false (flag), 2 a number (number), 3 an id (first) or none (flag false), 4 a value
- * (number) or none (flag false), 5 stay, 6 a switch from first to second, with third to release or none (flag false). Refused: kind 0.
- *
- * Stack, as measured: a call by value takes up to 7.5 KB, with its tables; a call through a mailbox up to 16 KB.
+ * given. A pointer must point to what it says, of which nobody else may make use until the call returns; nothing is kept behind it.
  *
  * The layouts below are those of x86-64; the number after a field is its offset. */
 #ifndef BREDUMALT_H
 #define BREDUMALT_H
+
+#if !defined(__x86_64__) || defined(__ILP32__) || defined(_WIN32)
+#error "the archives of bredumalt are for x86-64 with the System V calling convention"
+#endif
 
 #include <stdbool.h>
 #include <stddef.h>
@@ -26,8 +29,53 @@
 extern "C" {
 #endif
 
+/* Kinds of switch. */
 enum { BREDUMALT_YIELD = 0, BREDUMALT_PREEMPT = 1, BREDUMALT_BLOCK = 2, BREDUMALT_EXIT = 3 };
+
+/* Codes of states, and a number for an id that is not known. */
 enum { BREDUMALT_EMPTY = 0, BREDUMALT_READY = 1, BREDUMALT_RUNNING = 2, BREDUMALT_BLOCKED = 3, BREDUMALT_UNKNOWN = 4 };
+
+/* Why a call is refused: document 01's numbers and names. */
+enum {
+    BREDUMALT_REFUSAL_NONE = 0,
+    BREDUMALT_REFUSAL_BAD_TABLE = 1, /* a table handed in is not sound */
+    BREDUMALT_REFUSAL_BAD_SIZE = 2, /* a table is to be made in a size that is not listed */
+    BREDUMALT_REFUSAL_NOT_STARTED = 3, /* a changing call other than start before start */
+    BREDUMALT_REFUSAL_AGAIN = 4, /* a second start */
+    BREDUMALT_REFUSAL_BAD_CPU = 5, /* current_on, idle_of or has_ready_on with a CPU above 1 */
+    BREDUMALT_REFUSAL_CPU_OFF = 6, /* a switch on CPU 1 before start_cpu1 */
+    BREDUMALT_REFUSAL_SHORT_OUT = 7, /* a poll's output has under 16 places */
+    BREDUMALT_REFUSAL_BAD_TASK = 8, /* a slot of 64 or more is to wait for an interrupt */
+    BREDUMALT_REFUSAL_COOKIE_BUSY = 9, /* a task waits for the interrupt already */
+    BREDUMALT_REFUSAL_TASK_BUSY = 10, /* the task waits for an interrupt already */
+    BREDUMALT_REFUSAL_FULL = 11, /* no entry of the table, or no place of the ring, is free */
+    BREDUMALT_REFUSAL_BAD_LINE = 12, /* a number that names nothing: a kind of switch, a mailbox's call */
+    BREDUMALT_REFUSAL_TOO_LONG = 13, /* only the program events gives this */
+};
+
+/* Kinds of answer: what of an answer that is no refusal may be read. Refused: kind 0. */
+enum {
+    BREDUMALT_ANSWER_DONE = 0, /* nothing to tell */
+    BREDUMALT_ANSWER_TOLD = 1, /* true or false: flag */
+    BREDUMALT_ANSWER_NUMBER = 2, /* number */
+    BREDUMALT_ANSWER_NAMED = 3, /* an id: first; or none: flag is false */
+    BREDUMALT_ANSWER_VALUE = 4, /* number; or none: flag is false */
+    BREDUMALT_ANSWER_STAY = 5, /* the current task stays */
+    BREDUMALT_ANSWER_SWITCH = 6, /* from first to second, with third to release, or none to release: flag is false */
+};
+
+/* What is to be done to a task, and from IDLE on why nothing may be. */
+enum {
+    BREDUMALT_VERDICT_NOTHING = 0,
+    BREDUMALT_VERDICT_CANCEL = 1, /* cancel its wait */
+    BREDUMALT_VERDICT_FLAG_AND_CANCEL = 2, /* flag it to end, and cancel its wait */
+    BREDUMALT_VERDICT_FLAG_AND_NUDGE = 3, /* flag it to end, and tell its CPU */
+    BREDUMALT_VERDICT_MARK_AND_WAKE = 4, /* mark its wait as cancelled, and wake it */
+    BREDUMALT_VERDICT_IDLE = 5, /* it is an idle task */
+    BREDUMALT_VERDICT_BAD_ID = 6, /* its id is not known */
+    BREDUMALT_VERDICT_NOT_BLOCKED = 7, /* it waits for nothing */
+    BREDUMALT_VERDICT_EMPTY = 8, /* its slot is Empty */
+};
 
 /* A task: a slot, and which of its tenants. 4 bytes, aligned at 2. */
 typedef struct {
@@ -35,7 +83,18 @@ typedef struct {
     uint16_t epoch; /* 2 */
 } bredumalt_task_id;
 
-/* What a call answers: document 01's refusal number, or 0; then which kind of answer it is, and its values. 32 bytes, aligned at 8. */
+/* The name of an interrupt, and a packed id, epoch x 65536 + slot: two types, so that neither is taken for the other. 4 bytes each,
+   aligned at 4. */
+typedef struct {
+    uint32_t number; /* 0 */
+} bredumalt_cookie;
+
+typedef struct {
+    uint32_t number; /* 0 */
+} bredumalt_token;
+
+/* What a call answers: the refusal first, then the kind of answer, then its values; what a kind does not use is 0. 32 bytes, aligned
+ * at 8. */
 typedef struct {
     uint8_t refusal; /* 0 */
     uint8_t kind; /* 1 */
@@ -152,7 +211,8 @@ typedef struct {
     uint8_t kind; /* 2 */
     bool mark; /* 3 */
     bredumalt_task_id id; /* 4 */
-    uint32_t word; /* 8 */
+    bredumalt_cookie cookie; /* 8 */
+    bredumalt_token token; /* 12 */
     size_t slot; /* 16 */
     uint64_t time; /* 24 */
 } bredumalt_operands;
@@ -171,10 +231,10 @@ typedef struct {
 /* Task ids and their packed form. */
 
 /* The packed id: epoch * 65,536 + slot. */
-uint32_t bredumalt_ids_to_raw(bredumalt_task_id id);
+bredumalt_token bredumalt_ids_to_raw(bredumalt_task_id id);
 
 /* The id that a packed one stands for. */
-bredumalt_task_id bredumalt_ids_from_raw(uint32_t raw);
+bredumalt_task_id bredumalt_ids_from_raw(bredumalt_token raw);
 
 /* The FIFO ring of ready tasks. Refuses with 1 a ring that is not sound. */
 
@@ -226,7 +286,7 @@ bredumalt_answer bredumalt_wake_drops(bredumalt_wake_queue queue);
 bredumalt_answer bredumalt_wake_is_empty(bredumalt_wake_queue queue);
 
 /* Puts a token behind the others: true, or false where the queue is full and the drop is counted. */
-bredumalt_wakes_answer bredumalt_wake_push(bredumalt_wake_queue queue, uint32_t token);
+bredumalt_wakes_answer bredumalt_wake_push(bredumalt_wake_queue queue, bredumalt_token token);
 
 /* Takes the oldest token: a value or none. */
 bredumalt_wakes_answer bredumalt_wake_pop(bredumalt_wake_queue queue);
@@ -240,13 +300,13 @@ bredumalt_wait_table bredumalt_irqwait_new(void);
 bool bredumalt_irqwait_sound(bredumalt_wait_table table);
 
 /* The task waits for the interrupt; 8 for a slot of 64 or more, 9 or 10 where the cookie or the task is busy, 11 with no free entry. */
-bredumalt_waits_answer bredumalt_irqwait_arm(bredumalt_wait_table table, uint32_t cookie, bredumalt_task_id task);
+bredumalt_waits_answer bredumalt_irqwait_arm(bredumalt_wait_table table, bredumalt_cookie cookie, bredumalt_task_id task);
 
 /* The task waits for nothing any more. */
 bredumalt_waits_answer bredumalt_irqwait_disarm_task(bredumalt_wait_table table, bredumalt_task_id task);
 
 /* The interrupt has come: its waiter's id or none; the waiter's entry is freed and its slot marked. */
-bredumalt_waits_answer bredumalt_irqwait_signal(bredumalt_wait_table table, uint32_t cookie);
+bredumalt_waits_answer bredumalt_irqwait_signal(bredumalt_wait_table table, bredumalt_cookie cookie);
 
 /* Takes the task's mark: true, or false where it has none. */
 bredumalt_waits_answer bredumalt_irqwait_take_pending(bredumalt_wait_table table, bredumalt_task_id task);
@@ -359,21 +419,20 @@ bredumalt_answer bredumalt_tasks_live_count(bredumalt_tasks t);
 /* The most slots that had a task at a time: a number. */
 bredumalt_answer bredumalt_tasks_peak_slots(bredumalt_tasks t);
 
-/* What a supervisor may do to a task, by its state's code: 0 to 3, and any other number where the id is not known.
- * The answers are verdicts: 0 nothing, 1 cancel, 2 flag and cancel, 3 flag and nudge, 4 mark and wake; refused: 5 idle, 6 bad id,
- * 7 not Blocked, 8 Empty. */
+/* What a supervisor may do to a task, by its state's code: 0 to 3, and any other number where the id is not known. The answers are
+ * verdicts. */
 
-/* Ends a task that waits: 1, 5, 6 or 7. */
+/* Ends a task that waits: CANCEL, IDLE, BAD_ID or NOT_BLOCKED. */
 uint8_t bredumalt_lifecycle_reap(bool is_idle, uint8_t state);
 
-/* Ends a task whatever it does: 2, 3, 5, 6 or 8. */
+/* Ends a task whatever it does: FLAG_AND_CANCEL, FLAG_AND_NUDGE, IDLE, BAD_ID or EMPTY. */
 uint8_t bredumalt_lifecycle_force(bool is_idle, uint8_t state);
 
-/* Ends a wait, but not the task: 4 or 0. */
+/* Ends a wait, but not the task: MARK_AND_WAKE or NOTHING. */
 uint8_t bredumalt_lifecycle_cancel(uint8_t state);
 
-/* Calls through one pointer, for a caller that does not pass kilobytes by value (link target/staticlib/libmailbox.a). The numbers of the
- * calls, with the operands that they ask for. A mailbox whose bytes are all 0, but for tasks.n and wakes.c, has tables just made. */
+/* Calls through one pointer, for a caller that does not pass kilobytes by value. The numbers of the calls, with the operands that they
+ * ask for. A mailbox whose bytes are all 0, but for tasks.n and wakes.c, has tables just made. */
 enum {
     BREDUMALT_CALL_TASKS_START = 0,
     BREDUMALT_CALL_TASKS_START_CPU1 = 1,
@@ -397,22 +456,23 @@ enum {
     BREDUMALT_CALL_TASKS_BLOCK_EVENTS = 27,
     BREDUMALT_CALL_TASKS_LIVE_COUNT = 28,
     BREDUMALT_CALL_TASKS_PEAK_SLOTS = 29,
-    BREDUMALT_CALL_IRQWAIT_ARM = 32, /* word the cookie, id */
+    BREDUMALT_CALL_IRQWAIT_ARM = 32, /* cookie, id */
     BREDUMALT_CALL_IRQWAIT_DISARM_TASK = 33, /* id */
-    BREDUMALT_CALL_IRQWAIT_SIGNAL = 34, /* word the cookie */
+    BREDUMALT_CALL_IRQWAIT_SIGNAL = 34, /* cookie */
     BREDUMALT_CALL_IRQWAIT_TAKE_PENDING = 35, /* id */
     BREDUMALT_CALL_IRQWAIT_IS_PENDING = 36, /* id */
     BREDUMALT_CALL_PARKTIME_ARM = 48, /* id, time the deadline */
     BREDUMALT_CALL_PARKTIME_DISARM = 49, /* id */
     BREDUMALT_CALL_PARKTIME_POLL = 50, /* time now; the ids stand in out */
-    BREDUMALT_CALL_WAKE_PUSH = 64, /* word the token */
+    BREDUMALT_CALL_WAKE_PUSH = 64, /* token */
     BREDUMALT_CALL_WAKE_POP = 65,
     BREDUMALT_CALL_WAKE_DROPS = 66,
     BREDUMALT_CALL_WAKE_IS_EMPTY = 67,
 };
 
 /* Does the call that m->operands names, in place: one table changes as the call's own contract says, m->answer is its answer, and all
- * else stays. Numbers that name no call (or no kind of switch) are refused with 12, and nothing changes but the answer. */
+ * else stays. Only the table that the call is about is tested; the others are not looked at and stay as they are, sound or not. Numbers
+ * that name no call (or no kind of switch) are refused with 12, and nothing changes but the answer. */
 void bredumalt_mailbox_call(bredumalt_mailbox *m);
 
 #ifdef __cplusplus

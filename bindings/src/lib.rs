@@ -2,8 +2,13 @@
 //!
 //! Every function is total. A table whose bits are not a sound table is refused with 1 and handed back as given, so nothing here can
 //! be misused; what the answers and the tables are is proved on the other side, in the crates `numbers`, `abi`, `abi_leaves` and `mailbox`.
-//! Stack, as measured: a call by value takes up to 7.5 KB, with its tables; a call through a mailbox up to 16 KB.
-//! The layouts are those of C on x86-64. A `bool` in a table must be 0 or 1, which safe Rust keeps by itself; all else may be any bits.
+//! A `bool` in a table must be 0 or 1, which safe Rust keeps by itself; all else may be any bits.
+//!
+//! What the archives need of the firmware, their stack included, stands at the top of `include/bredumalt.h`.
+#![no_std]
+
+#[cfg(not(all(target_arch = "x86_64", target_pointer_width = "64", not(any(windows, target_os = "uefi")))))]
+compile_error!("the archives of bredumalt are for x86-64 with the System V calling convention");
 
 /// A task: a slot, and which of its tenants. 4 bytes.
 #[repr(C)]
@@ -13,7 +18,17 @@ pub struct TaskId {
     pub epoch: u16,
 }
 
-/// What a call answers: document 01's refusal number, or 0; then which kind of answer it is, and its values. 32 bytes.
+/// The name of an interrupt. A type of its own, as in the proved calls: no token is taken for it. 4 bytes.
+#[repr(C)]
+#[derive(Clone, Copy, Debug, PartialEq)]
+pub struct Cookie(pub u32);
+
+/// A packed id, epoch x 65,536 + slot, as it travels through the wake queue. 4 bytes.
+#[repr(C)]
+#[derive(Clone, Copy, Debug, PartialEq)]
+pub struct Token(pub u32);
+
+/// What a call answers: the refusal first (`refusal`), then the kind of answer (`answer`), then its values. 32 bytes.
 #[repr(C)]
 #[derive(Clone, Copy, Debug, PartialEq)]
 pub struct Answer {
@@ -160,7 +175,8 @@ pub struct Operands {
     pub kind: u8,
     pub mark: bool,
     pub id: TaskId,
-    pub word: u32,
+    pub cookie: Cookie,
+    pub token: Token,
     pub slot: usize,
     pub time: u64,
 }
@@ -181,7 +197,7 @@ pub struct Mailbox {
 /// An answer, read: the kinds of `Answer` as an enum.
 #[derive(Clone, Copy, Debug, PartialEq)]
 pub enum Reply {
-    /// Document 01's number. Every table and every lent buffer is as it was.
+    /// Document 01's number, one of `refusal`. Every table and every lent buffer is as it was.
     Refused(u8),
     Done,
     Told(bool),
@@ -198,21 +214,90 @@ pub enum Reply {
 
 impl Answer {
     /// Reads the numbers, as `crates/numbers/specs/Reading.antt` does on paper, where it is proved that every reply is read back as it was.
-    /// Kinds: 0 nothing to tell, 1 true or false (`flag`), 2 a number, 3 an id (`first`) or none, 4 a value (`number`) or none, 5 stay, 6 a
-    /// switch from `first` to `second`, with `third` to release or none. The flag says whether there is one.
     pub fn reply(self) -> Reply {
-        let third = self.flag.then_some(self.third);
         match (self.refusal, self.kind) {
-            (0, 1) => Reply::Told(self.flag),
-            (0, 2) => Reply::Number(self.number),
-            (0, 3) => Reply::Named(self.flag.then_some(self.first)),
-            (0, 4) => Reply::Value(self.flag.then_some(self.number)),
-            (0, 5) => Reply::Stay,
-            (0, 6) => Reply::Switch { from: self.first, to: self.second, release: third },
-            (0, _) => Reply::Done,
+            (refusal::NONE, answer::TOLD) => Reply::Told(self.flag),
+            (refusal::NONE, answer::NUMBER) => Reply::Number(self.number),
+            (refusal::NONE, answer::NAMED) => Reply::Named(self.flag.then_some(self.first)),
+            (refusal::NONE, answer::VALUE) => Reply::Value(self.flag.then_some(self.number)),
+            (refusal::NONE, answer::STAY) => Reply::Stay,
+            (refusal::NONE, answer::SWITCH) => {
+                Reply::Switch { from: self.first, to: self.second, release: self.flag.then_some(self.third) }
+            }
+            (refusal::NONE, _) => Reply::Done,
             (number, _) => Reply::Refused(number),
         }
     }
+}
+
+/// Why a call is refused: document 01's numbers and names.
+pub mod refusal {
+    pub const NONE: u8 = 0;
+    /// A table handed in is not sound.
+    pub const BAD_TABLE: u8 = 1;
+    /// A table is to be made in a size that is not listed.
+    pub const BAD_SIZE: u8 = 2;
+    /// A changing call other than `start` before `start`.
+    pub const NOT_STARTED: u8 = 3;
+    /// A second `start`.
+    pub const AGAIN: u8 = 4;
+    /// `current_on`, `idle_of` or `has_ready_on` with a CPU above 1.
+    pub const BAD_CPU: u8 = 5;
+    /// A switch on CPU 1 before `start_cpu1`.
+    pub const CPU_OFF: u8 = 6;
+    /// A poll's output has under 16 places.
+    pub const SHORT_OUT: u8 = 7;
+    /// A slot of 64 or more is to wait for an interrupt.
+    pub const BAD_TASK: u8 = 8;
+    /// A task waits for the interrupt already.
+    pub const COOKIE_BUSY: u8 = 9;
+    /// The task waits for an interrupt already.
+    pub const TASK_BUSY: u8 = 10;
+    /// No entry of the table, or no place of the ring, is free.
+    pub const FULL: u8 = 11;
+    /// A number that names nothing: a kind of switch, a mailbox's call.
+    pub const BAD_LINE: u8 = 12;
+    /// Only the program `events` gives this.
+    pub const TOO_LONG: u8 = 13;
+}
+
+/// Kinds of answer: what of an answer that is no refusal may be read.
+pub mod answer {
+    /// Nothing to tell. The kind of a refusal too.
+    pub const DONE: u8 = 0;
+    /// True or false: `flag`.
+    pub const TOLD: u8 = 1;
+    /// `number`.
+    pub const NUMBER: u8 = 2;
+    /// An id, `first`; or none, and then `flag` is false.
+    pub const NAMED: u8 = 3;
+    /// `number`; or none, and then `flag` is false.
+    pub const VALUE: u8 = 4;
+    /// The current task stays.
+    pub const STAY: u8 = 5;
+    /// From `first` to `second`, with `third` to release; or none to release, and then `flag` is false.
+    pub const SWITCH: u8 = 6;
+}
+
+/// What is to be done to a task, and from `IDLE` on why nothing may be.
+pub mod verdict {
+    pub const NOTHING: u8 = 0;
+    /// Cancel its wait.
+    pub const CANCEL: u8 = 1;
+    /// Flag it to end, and cancel its wait.
+    pub const FLAG_AND_CANCEL: u8 = 2;
+    /// Flag it to end, and tell its CPU.
+    pub const FLAG_AND_NUDGE: u8 = 3;
+    /// Mark its wait as cancelled, and wake it.
+    pub const MARK_AND_WAKE: u8 = 4;
+    /// It is an idle task.
+    pub const IDLE: u8 = 5;
+    /// Its id is not known.
+    pub const BAD_ID: u8 = 6;
+    /// It waits for nothing.
+    pub const NOT_BLOCKED: u8 = 7;
+    /// Its slot is Empty.
+    pub const EMPTY: u8 = 8;
 }
 
 /// Kinds of switch.
@@ -221,20 +306,25 @@ pub const PREEMPT: u8 = 1;
 pub const BLOCK: u8 = 2;
 pub const EXIT: u8 = 3;
 
-/// Codes of states, and the number for an id that is not known.
+/// Codes of states, and a number for an id that is not known.
 pub const EMPTY: u8 = 0;
 pub const READY: u8 = 1;
 pub const RUNNING: u8 = 2;
 pub const BLOCKED: u8 = 3;
 pub const UNKNOWN: u8 = 4;
 
-// The exported functions. All but the one with a pointer are safe as they stand: they take any values and touch no memory but a mailbox.
+// The exported functions.
 mod sys {
     use super::*;
 
+    // SAFETY: the structs have the layouts that C sees (tests/layout.rs), and the prototypes are the header's (tests/header.rs), by
+    // which tests/calls.c makes every call. A call takes any values. A bool that comes back is the byte 0 or 1: the contract gives
+    // true or false, and calls.c looks at the byte. Nothing is touched but what a pointer lends, and nothing kept behind it: the
+    // archives have no data to keep it in (check.sh). So a call is safe, but for the poll: that its pointer and its length belong
+    // together, the types do not say.
     unsafe extern "C" {
-        pub safe fn bredumalt_ids_to_raw(id: TaskId) -> u32;
-        pub safe fn bredumalt_ids_from_raw(raw: u32) -> TaskId;
+        pub safe fn bredumalt_ids_to_raw(id: TaskId) -> Token;
+        pub safe fn bredumalt_ids_from_raw(raw: Token) -> TaskId;
         pub safe fn bredumalt_runqueue_new(n: usize) -> QueueAnswer;
         pub safe fn bredumalt_runqueue_sound(queue: RunQueue) -> bool;
         pub safe fn bredumalt_runqueue_capacity(queue: RunQueue) -> Answer;
@@ -250,13 +340,13 @@ mod sys {
         pub safe fn bredumalt_wake_sound(queue: WakeQueue) -> bool;
         pub safe fn bredumalt_wake_drops(queue: WakeQueue) -> Answer;
         pub safe fn bredumalt_wake_is_empty(queue: WakeQueue) -> Answer;
-        pub safe fn bredumalt_wake_push(queue: WakeQueue, token: u32) -> WakesAnswer;
+        pub safe fn bredumalt_wake_push(queue: WakeQueue, token: Token) -> WakesAnswer;
         pub safe fn bredumalt_wake_pop(queue: WakeQueue) -> WakesAnswer;
         pub safe fn bredumalt_irqwait_new() -> WaitTable;
         pub safe fn bredumalt_irqwait_sound(table: WaitTable) -> bool;
-        pub safe fn bredumalt_irqwait_arm(table: WaitTable, cookie: u32, task: TaskId) -> WaitsAnswer;
+        pub safe fn bredumalt_irqwait_arm(table: WaitTable, cookie: Cookie, task: TaskId) -> WaitsAnswer;
         pub safe fn bredumalt_irqwait_disarm_task(table: WaitTable, task: TaskId) -> WaitsAnswer;
-        pub safe fn bredumalt_irqwait_signal(table: WaitTable, cookie: u32) -> WaitsAnswer;
+        pub safe fn bredumalt_irqwait_signal(table: WaitTable, cookie: Cookie) -> WaitsAnswer;
         pub safe fn bredumalt_irqwait_take_pending(table: WaitTable, task: TaskId) -> WaitsAnswer;
         pub safe fn bredumalt_irqwait_is_pending(table: WaitTable, task: TaskId) -> Answer;
         pub safe fn bredumalt_parktime_new() -> Table;
@@ -304,12 +394,12 @@ pub mod ids {
     use super::*;
 
     /// The packed id: epoch * 65,536 + slot.
-    pub fn to_raw(id: TaskId) -> u32 {
+    pub fn to_raw(id: TaskId) -> Token {
         sys::bredumalt_ids_to_raw(id)
     }
 
     /// The id that a packed one stands for.
-    pub fn from_raw(raw: u32) -> TaskId {
+    pub fn from_raw(raw: Token) -> TaskId {
         sys::bredumalt_ids_from_raw(raw)
     }
 }
@@ -399,7 +489,7 @@ pub mod wake {
     }
 
     /// Puts a token behind the others: true, or false where the queue is full and the drop is counted.
-    pub fn push(queue: WakeQueue, token: u32) -> WakesAnswer {
+    pub fn push(queue: WakeQueue, token: Token) -> WakesAnswer {
         sys::bredumalt_wake_push(queue, token)
     }
 
@@ -424,7 +514,7 @@ pub mod irqwait {
     }
 
     /// The task waits for the interrupt; 8 for a slot of 64 or more, 9 or 10 where the cookie or the task is busy, 11 with no free entry.
-    pub fn arm(table: WaitTable, cookie: u32, task: TaskId) -> WaitsAnswer {
+    pub fn arm(table: WaitTable, cookie: Cookie, task: TaskId) -> WaitsAnswer {
         sys::bredumalt_irqwait_arm(table, cookie, task)
     }
 
@@ -434,7 +524,7 @@ pub mod irqwait {
     }
 
     /// The interrupt has come: its waiter's id or none; the waiter's entry is freed and its slot marked.
-    pub fn signal(table: WaitTable, cookie: u32) -> WaitsAnswer {
+    pub fn signal(table: WaitTable, cookie: Cookie) -> WaitsAnswer {
         sys::bredumalt_irqwait_signal(table, cookie)
     }
 
@@ -476,7 +566,7 @@ pub mod parktime {
     /// Drops every deadline that is at most `now` and writes the raw ids of its tasks to the start of `out`, in entry order: how many,
     /// a number; 7 where `out` has under 16 places.
     pub fn poll(table: Table, now: u64, out: &mut [u32]) -> DeadlinesAnswer {
-        // SAFETY: the pointer and the length are those of a slice that is ours alone until the call returns.
+        // SAFETY: pointer and length are of one slice, which is ours alone until the call returns, and nothing is kept behind it.
         unsafe { sys::bredumalt_parktime_poll(table, now, out.as_mut_ptr(), out.len()) }
     }
 }
@@ -627,23 +717,22 @@ pub mod tasks {
     }
 }
 
-/// What a supervisor may do to a task, by its state's code: 0 to 3, and any other number where the id is not known.
-/// The answers are verdicts: 0 nothing, 1 cancel, 2 flag and cancel, 3 flag and nudge, 4 mark and wake; refused: 5 idle, 6 bad id,
-/// 7 not Blocked, 8 Empty.
+/// What a supervisor may do to a task, by its state's code: 0 to 3, and any other number where the id is not known. The answers are
+/// verdicts (`verdict`).
 pub mod lifecycle {
     use super::*;
 
-    /// Ends a task that waits: 1, 5, 6 or 7.
+    /// Ends a task that waits: `CANCEL`, `IDLE`, `BAD_ID` or `NOT_BLOCKED`.
     pub fn reap(is_idle: bool, state: u8) -> u8 {
         sys::bredumalt_lifecycle_reap(is_idle, state)
     }
 
-    /// Ends a task whatever it does: 2, 3, 5, 6 or 8.
+    /// Ends a task whatever it does: `FLAG_AND_CANCEL`, `FLAG_AND_NUDGE`, `IDLE`, `BAD_ID` or `EMPTY`.
     pub fn force(is_idle: bool, state: u8) -> u8 {
         sys::bredumalt_lifecycle_force(is_idle, state)
     }
 
-    /// Ends a wait, but not the task: 4 or 0.
+    /// Ends a wait, but not the task: `MARK_AND_WAKE` or `NOTHING`.
     pub fn cancel(state: u8) -> u8 {
         sys::bredumalt_lifecycle_cancel(state)
     }
@@ -697,11 +786,11 @@ pub mod mailbox {
     pub const TASKS_LIVE_COUNT: u8 = 28;
     /// `tasks::peak_slots`.
     pub const TASKS_PEAK_SLOTS: u8 = 29;
-    /// `irqwait::arm`: word the cookie, id.
+    /// `irqwait::arm`: cookie, id.
     pub const IRQWAIT_ARM: u8 = 32;
     /// `irqwait::disarm_task`: id.
     pub const IRQWAIT_DISARM_TASK: u8 = 33;
-    /// `irqwait::signal`: word the cookie.
+    /// `irqwait::signal`: cookie.
     pub const IRQWAIT_SIGNAL: u8 = 34;
     /// `irqwait::take_pending`: id.
     pub const IRQWAIT_TAKE_PENDING: u8 = 35;
@@ -713,7 +802,7 @@ pub mod mailbox {
     pub const PARKTIME_DISARM: u8 = 49;
     /// `parktime::poll`: time now; the ids stand in out.
     pub const PARKTIME_POLL: u8 = 50;
-    /// `wake::push`: word the token.
+    /// `wake::push`: token.
     pub const WAKE_PUSH: u8 = 64;
     /// `wake::pop`.
     pub const WAKE_POP: u8 = 65;
@@ -723,7 +812,8 @@ pub mod mailbox {
     pub const WAKE_IS_EMPTY: u8 = 67;
 
     /// Does the call that `m.operands` names, in place: one table changes as the call's own contract says, `m.answer` is its answer,
-    /// and all else stays. Numbers that name no call (or no kind of switch) are refused with 12, and nothing changes but the answer.
+    /// and all else stays. Only the table that the call is about is tested; the others are not looked at and stay as they are, sound
+    /// or not. Numbers that name no call (or no kind of switch) are refused with 12, and nothing changes but the answer.
     pub fn call(m: &mut Mailbox) {
         sys::bredumalt_mailbox_call(m)
     }
@@ -731,8 +821,17 @@ pub mod mailbox {
 
 impl Operands {
     /// All zero.
-    pub const ZERO: Operands =
-        Operands { call: 0, cpu: 0, kind: 0, mark: false, id: TaskId { slot: 0, epoch: 0 }, word: 0, slot: 0, time: 0 };
+    pub const ZERO: Operands = Operands {
+        call: 0,
+        cpu: 0,
+        kind: 0,
+        mark: false,
+        id: TaskId { slot: 0, epoch: 0 },
+        cookie: Cookie(0),
+        token: Token(0),
+        slot: 0,
+        time: 0,
+    };
 }
 
 impl Mailbox {

@@ -23,49 +23,49 @@ fn every_refusal_once() {
     let mut bad = table(4);
     bad.n = 65;
     let got = tasks::start(bad);
-    assert_eq!((got.answer.reply(), got.tasks), (Reply::Refused(1), bad));
+    assert_eq!((got.answer.reply(), got.tasks), (Reply::Refused(refusal::BAD_TABLE), bad));
     assert!(!tasks::sound(bad));
 
-    assert_eq!(tasks::new(0).answer.reply(), Reply::Refused(2));
-    assert_eq!(tasks::new(65).answer.reply(), Reply::Refused(2));
-    assert_eq!(wake::new(3).answer.reply(), Reply::Refused(2));
-    assert_eq!(runqueue::new(0).answer.reply(), Reply::Refused(2));
+    assert_eq!(tasks::new(0).answer.reply(), Reply::Refused(refusal::BAD_SIZE));
+    assert_eq!(tasks::new(65).answer.reply(), Reply::Refused(refusal::BAD_SIZE));
+    assert_eq!(wake::new(3).answer.reply(), Reply::Refused(refusal::BAD_SIZE));
+    assert_eq!(runqueue::new(0).answer.reply(), Reply::Refused(refusal::BAD_SIZE));
 
     let fresh = table(4);
     let got = tasks::admit(fresh);
-    assert_eq!((got.answer.reply(), got.tasks), (Reply::Refused(3), fresh));
+    assert_eq!((got.answer.reply(), got.tasks), (Reply::Refused(refusal::NOT_STARTED), fresh));
 
     let t = started(4);
     let got = tasks::start(t);
-    assert_eq!((got.answer.reply(), got.tasks), (Reply::Refused(4), t));
-    assert_eq!(tasks::current_on(t, 2).reply(), Reply::Refused(5));
+    assert_eq!((got.answer.reply(), got.tasks), (Reply::Refused(refusal::AGAIN), t));
+    assert_eq!(tasks::current_on(t, 2).reply(), Reply::Refused(refusal::BAD_CPU));
     let got = tasks::switch_on(t, 1, YIELD);
-    assert_eq!((got.answer.reply(), got.tasks), (Reply::Refused(6), t));
+    assert_eq!((got.answer.reply(), got.tasks), (Reply::Refused(refusal::CPU_OFF), t));
 
     let armed = parktime::arm(parktime::new(), id(3, 2), 100).table;
     let mut short = [7; 15];
     let got = parktime::poll(armed, 100, &mut short);
-    assert_eq!((got.answer.reply(), got.table, short), (Reply::Refused(7), armed, [7; 15]));
+    assert_eq!((got.answer.reply(), got.table, short), (Reply::Refused(refusal::SHORT_OUT), armed, [7; 15]));
 
     let waits = irqwait::new();
-    let got = irqwait::arm(waits, 30, id(64, 0));
-    assert_eq!((got.answer.reply(), got.table), (Reply::Refused(8), waits));
-    let one = irqwait::arm(waits, 30, id(2, 0)).table;
-    let two = irqwait::arm(one, 31, id(3, 0)).table;
-    let got = irqwait::arm(two, 30, id(3, 0));
-    assert_eq!((got.answer.reply(), got.table), (Reply::Refused(9), two));
-    let got = irqwait::arm(two, 31, id(2, 0));
-    assert_eq!((got.answer.reply(), got.table), (Reply::Refused(10), two));
+    let got = irqwait::arm(waits, Cookie(30), id(64, 0));
+    assert_eq!((got.answer.reply(), got.table), (Reply::Refused(refusal::BAD_TASK), waits));
+    let one = irqwait::arm(waits, Cookie(30), id(2, 0)).table;
+    let two = irqwait::arm(one, Cookie(31), id(3, 0)).table;
+    let got = irqwait::arm(two, Cookie(30), id(3, 0));
+    assert_eq!((got.answer.reply(), got.table), (Reply::Refused(refusal::COOKIE_BUSY), two));
+    let got = irqwait::arm(two, Cookie(31), id(2, 0));
+    assert_eq!((got.answer.reply(), got.table), (Reply::Refused(refusal::TASK_BUSY), two));
 
     let full = runqueue::enqueue(runqueue::new(1).queue, id(1, 0)).queue;
     let got = runqueue::enqueue(full, id(2, 0));
-    assert_eq!((got.answer.reply(), got.queue), (Reply::Refused(11), full));
+    assert_eq!((got.answer.reply(), got.queue), (Reply::Refused(refusal::FULL), full));
 
     for kind in 4..=255 {
         let got = tasks::switch(t, kind);
-        assert_eq!((got.answer.reply(), got.tasks), (Reply::Refused(12), t));
+        assert_eq!((got.answer.reply(), got.tasks), (Reply::Refused(refusal::BAD_LINE), t));
         let got = tasks::switch_on(bad, 0, kind);
-        assert_eq!((got.answer.reply(), got.tasks), (Reply::Refused(12), bad));
+        assert_eq!((got.answer.reply(), got.tasks), (Reply::Refused(refusal::BAD_LINE), bad));
     }
 }
 
@@ -164,15 +164,15 @@ fn fields_are_where_they_belong() {
 
     let mut w = wake::new(4).queue;
     for token in [70, 71, 72, 73] {
-        w = wake::push(w, token).queue;
+        w = wake::push(w, Token(token)).queue;
     }
     assert_eq!((w.c, w.head, w.tail, w.drops, &w.tokens[..3]), (4, 3, 0, 1, &[70, 71, 72][..]));
     let got = wake::pop(w);
     assert_eq!((got.answer.reply(), got.queue.tail), (Reply::Value(Some(70)), 1));
 
-    let waits = irqwait::arm(irqwait::new(), 30, id(5, 9)).table;
+    let waits = irqwait::arm(irqwait::new(), Cookie(30), id(5, 9)).table;
     assert_eq!(waits.waiters[0], Waiter { live: true, cookie: 30, task: id(5, 9) });
-    let got = irqwait::signal(waits, 30);
+    let got = irqwait::signal(waits, Cookie(30));
     assert_eq!((got.answer.reply(), got.table.pending[5]), (Reply::Named(Some(id(5, 9))), Mark { set: true, task: id(5, 9) }));
     assert_eq!(irqwait::is_pending(got.table, id(5, 9)).reply(), Reply::Told(true));
 
@@ -181,7 +181,7 @@ fn fields_are_where_they_belong() {
     let mut out = [9; 17];
     let got = parktime::poll(d, 1 << 40, &mut out);
     assert_eq!((got.answer.reply(), got.table, out[0], out[1]), (Reply::Number(1), parktime::new(), 131_075, 9));
-    assert_eq!((ids::to_raw(id(3, 2)), ids::from_raw(131_075)), (131_075, id(3, 2)));
+    assert_eq!((ids::to_raw(id(3, 2)), ids::from_raw(Token(131_075))), (Token(131_075), id(3, 2)));
 }
 
 // A bool that comes back is the byte 0 or 1, and one that goes in is read as it was meant.
@@ -209,9 +209,11 @@ fn bools_are_0_or_1() {
     assert_eq!(runqueue::after_yield(q, true, id(2, 0)).queue.len, 1);
     assert_eq!(runqueue::after_yield(q, false, id(2, 0)).queue.len, 0);
 
-    assert_eq!((lifecycle::reap(true, BLOCKED), lifecycle::reap(false, BLOCKED)), (5, 1));
-    assert_eq!((lifecycle::reap(false, EMPTY), lifecycle::reap(false, UNKNOWN)), (7, 6));
-    assert_eq!((lifecycle::force(true, READY), lifecycle::force(false, READY)), (5, 3));
-    assert_eq!((lifecycle::force(false, EMPTY), lifecycle::force(false, BLOCKED), lifecycle::force(false, 255)), (8, 2, 6));
-    assert_eq!((lifecycle::cancel(BLOCKED), lifecycle::cancel(RUNNING), lifecycle::cancel(UNKNOWN)), (4, 0, 0));
+    use verdict::*;
+    assert_eq!((lifecycle::reap(true, BLOCKED), lifecycle::reap(false, BLOCKED)), (IDLE, CANCEL));
+    assert_eq!((lifecycle::reap(false, bredumalt::EMPTY), lifecycle::reap(false, UNKNOWN)), (NOT_BLOCKED, BAD_ID));
+    assert_eq!((lifecycle::force(true, READY), lifecycle::force(false, READY)), (IDLE, FLAG_AND_NUDGE));
+    assert_eq!((lifecycle::force(false, bredumalt::EMPTY), lifecycle::force(false, BLOCKED)), (verdict::EMPTY, FLAG_AND_CANCEL));
+    assert_eq!((lifecycle::force(false, 255), lifecycle::cancel(BLOCKED)), (BAD_ID, MARK_AND_WAKE));
+    assert_eq!((lifecycle::cancel(RUNNING), lifecycle::cancel(UNKNOWN)), (NOTHING, NOTHING));
 }

@@ -5,12 +5,17 @@
 #include <stdio.h>
 
 #define SIZE(name, type) printf("%s %zu %zu\n", name, sizeof(type), alignof(type))
-#define FIELD(name, type, field) printf("%s.%s %zu\n", name, #field, offsetof(type, field))
+#define NAMED_FIELD(name, rust, type, field) printf("%s.%s %zu\n", name, rust, offsetof(type, field))
+#define FIELD(name, type, field) NAMED_FIELD(name, #field, type, field)
 
 int main(void) {
     SIZE("TaskId", bredumalt_task_id);
     FIELD("TaskId", bredumalt_task_id, slot);
     FIELD("TaskId", bredumalt_task_id, epoch);
+    SIZE("Cookie", bredumalt_cookie);
+    NAMED_FIELD("Cookie", "0", bredumalt_cookie, number);
+    SIZE("Token", bredumalt_token);
+    NAMED_FIELD("Token", "0", bredumalt_token, number);
     SIZE("Answer", bredumalt_answer);
     FIELD("Answer", bredumalt_answer, refusal);
     FIELD("Answer", bredumalt_answer, kind);
@@ -85,7 +90,8 @@ int main(void) {
     FIELD("Operands", bredumalt_operands, kind);
     FIELD("Operands", bredumalt_operands, mark);
     FIELD("Operands", bredumalt_operands, id);
-    FIELD("Operands", bredumalt_operands, word);
+    FIELD("Operands", bredumalt_operands, cookie);
+    FIELD("Operands", bredumalt_operands, token);
     FIELD("Operands", bredumalt_operands, slot);
     FIELD("Operands", bredumalt_operands, time);
     SIZE("Mailbox", bredumalt_mailbox);

@@ -3,7 +3,7 @@ use bredumalt::*;
 use std::mem::{align_of, offset_of, size_of};
 
 macro_rules! lines {
-    ($text:ident, $($name:ident { $($field:ident)* })*) => {
+    ($text:ident, $($name:ident { $($field:tt)* })*) => {
         $(
             $text += &format!("{} {} {}\n", stringify!($name), size_of::<$name>(), align_of::<$name>());
             $( $text += &format!("{}.{} {}\n", stringify!($name), stringify!($field), offset_of!($name, $field)); )*
@@ -16,6 +16,8 @@ fn layouts_are_those_of_c() {
     let mut text = String::new();
     lines!(text,
         TaskId { slot epoch }
+        Cookie { 0 }
+        Token { 0 }
         Answer { refusal kind flag number first second third }
         RunQueue { n head len slots epochs }
         WakeQueue { c head tail drops tokens }
@@ -30,7 +32,7 @@ fn layouts_are_those_of_c() {
         WaitsAnswer { table answer }
         DeadlinesAnswer { table answer }
         TasksAnswer { tasks answer }
-        Operands { call cpu kind mark id word slot time }
+        Operands { call cpu kind mark id cookie token slot time }
         Mailbox { tasks waits deadlines wakes out operands answer }
     );
     assert_eq!(text, include_str!("layout.txt"));

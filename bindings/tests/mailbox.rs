@@ -59,9 +59,9 @@ impl Tables {
             TASKS_BLOCK_EVENTS => tasks::block_events(t),
             TASKS_LIVE_COUNT => tasks::live_count(t),
             TASKS_PEAK_SLOTS => tasks::peak_slots(t),
-            IRQWAIT_ARM => self.wait(irqwait::arm(w, o.word, o.id)),
+            IRQWAIT_ARM => self.wait(irqwait::arm(w, o.cookie, o.id)),
             IRQWAIT_DISARM_TASK => self.wait(irqwait::disarm_task(w, o.id)),
-            IRQWAIT_SIGNAL => self.wait(irqwait::signal(w, o.word)),
+            IRQWAIT_SIGNAL => self.wait(irqwait::signal(w, o.cookie)),
             IRQWAIT_TAKE_PENDING => self.wait(irqwait::take_pending(w, o.id)),
             IRQWAIT_IS_PENDING => irqwait::is_pending(w, o.id),
             PARKTIME_ARM => self.deadline(parktime::arm(d, o.id, o.time)),
@@ -70,7 +70,7 @@ impl Tables {
                 let got = parktime::poll(d, o.time, &mut self.out);
                 self.deadline(got)
             }
-            WAKE_PUSH => self.token(wake::push(q, o.word)),
+            WAKE_PUSH => self.token(wake::push(q, o.token)),
             WAKE_POP => self.token(wake::pop(q)),
             WAKE_DROPS => wake::drops(q),
             WAKE_IS_EMPTY => wake::is_empty(q),
@@ -136,7 +136,8 @@ fn as_by_value() {
             kind: any(5) as u8,
             mark: any(2) == 0,
             id,
-            word: any(6) as u32,
+            cookie: Cookie(any(6) as u32),
+            token: Token(any(6) as u32),
             slot: any(11) as usize,
             time: any(100),
         };
@@ -167,7 +168,7 @@ fn numbers_that_name_nothing() {
         m.operands.call = call;
         let before = m;
         mailbox::call(&mut m);
-        assert_eq!(m.answer.reply(), Reply::Refused(12));
+        assert_eq!(m.answer.reply(), Reply::Refused(refusal::BAD_LINE));
         m.answer = before.answer;
         assert_eq!(m, before);
     }
@@ -175,7 +176,7 @@ fn numbers_that_name_nothing() {
     let before = m;
     mailbox::call(&mut m);
     assert_eq!(m, Mailbox { answer: m.answer, ..before });
-    assert_eq!(m.answer.reply(), Reply::Refused(12));
+    assert_eq!(m.answer.reply(), Reply::Refused(refusal::BAD_LINE));
 }
 
 // A table that was just made is all zero but for its size: C can clear a mailbox and set the two sizes.

@@ -1,12 +1,12 @@
 //! The sixteen deadlines on both sides.
 
+use crate::boxed::Boxed;
 use crate::pair::{Pair, Setup};
 use crate::rng::Rng;
-use crate::tasks::by_mailbox;
-use crate::{id, same, their, written};
-use bredumalt::{Answer, Mailbox, Operands, Reply, Table, TaskId, mailbox, parktime};
+use crate::{id, reply, same, their, written};
+use bredumalt::{Answer, Operands, Reply, Table, TaskId, mailbox, parktime};
+use oracle::guarded::{self, Refusal};
 use oracle::parktime::Table as Theirs;
-use oracle::runqueue::TaskId as TheirId;
 use std::fmt;
 use std::hash::{DefaultHasher, Hash};
 
@@ -37,24 +37,18 @@ pub fn before(i: usize) -> u32 {
     0xabcd_0000 + i as u32
 }
 
-/// The customer's poll takes sixteen places; refusal 7 stands in front of it, and places beyond the sixteenth are left as they are.
-fn theirs_call(t: &mut Theirs, c: Call, out: &mut [u32]) -> Reply {
-    match c {
-        Arm(x, d) => t.arm(their(x), d).map_or(Reply::Refused(11), |()| Reply::Done),
+fn theirs_call(t: &mut Theirs, c: Call, out: &mut [u32]) -> Result<Reply, Refusal> {
+    Ok(match c {
+        Arm(x, d) => {
+            t.arm(their(x), d)?;
+            Reply::Done
+        }
         Disarm(x) => {
             t.disarm(their(x));
             Reply::Done
         }
-        Poll(_, ..16) => Reply::Refused(7),
-        Poll(now, _) => {
-            let mut ids: [TheirId; 16] = std::array::from_fn(|i| TheirId::from_raw(out[i]));
-            let n = t.poll(now, &mut ids);
-            for (place, x) in out.iter_mut().zip(ids) {
-                *place = x.to_raw();
-            }
-            Reply::Number(n as u64)
-        }
-    }
+        Poll(now, places) => Reply::Number(guarded::poll(t, now, &mut out[..places])? as u64),
+    })
 }
 
 pub fn by_value(t: Table, c: Call, out: &mut [u32]) -> (Table, Answer) {
@@ -66,23 +60,23 @@ pub fn by_value(t: Table, c: Call, out: &mut [u32]) -> (Table, Answer) {
     (changed.table, changed.answer)
 }
 
-pub fn operands(c: Call) -> Operands {
+pub fn operands(c: Call, noise: Operands) -> Operands {
     match c {
-        Arm(id, time) => Operands { call: mailbox::PARKTIME_ARM, id, time, ..Operands::ZERO },
-        Disarm(id) => Operands { call: mailbox::PARKTIME_DISARM, id, time: 7, ..Operands::ZERO },
-        Poll(time, _) => Operands { call: mailbox::PARKTIME_POLL, time, ..Operands::ZERO },
+        Arm(id, time) => Operands { call: mailbox::PARKTIME_ARM, id, time, ..noise },
+        Disarm(id) => Operands { call: mailbox::PARKTIME_DISARM, id, ..noise },
+        Poll(time, _) => Operands { call: mailbox::PARKTIME_POLL, time, ..noise },
     }
 }
 
 pub struct Both {
     theirs: Theirs,
     ours: Table,
-    mailbox: Option<Box<Mailbox>>,
+    boxed: Option<Boxed>,
 }
 
 impl Both {
     pub fn ours(&self) -> &Table {
-        self.mailbox.as_ref().map_or(&self.ours, |m| &m.deadlines)
+        self.boxed.as_ref().map_or(&self.ours, |b| &b.mailbox.deadlines)
     }
 }
 
@@ -92,24 +86,24 @@ impl Pair for Both {
     const BIASES: &'static [&'static str] = &["even", "full", "few"];
 
     fn fresh(setup: Setup) -> Self {
-        let mailbox = setup.boxed.then(|| Box::new(Mailbox::new(1, 2)));
-        Both { theirs: Theirs::new(), ours: parktime::new(), mailbox }
+        let boxed = setup.boxed.map(|seed| Boxed::new(1, 2, seed));
+        Both { theirs: Theirs::new(), ours: parktime::new(), boxed }
     }
 
     fn step(&mut self, call: Call) -> Result<(), String> {
         let mut expected: [u32; PLACES] = std::array::from_fn(before);
         let mut out = expected;
         // a mailbox has an output of sixteen places, always
-        let call = match (call, &self.mailbox) {
+        let call = match (call, &self.boxed) {
             (Poll(now, _), Some(_)) => Poll(now, 16),
             _ => call,
         };
-        let reply = theirs_call(&mut self.theirs, call, &mut expected);
-        let answer = match &mut self.mailbox {
-            Some(m) => {
-                m.out.copy_from_slice(&out[..16]);
-                let answer = by_mailbox(m, operands(call))?;
-                out[..16].copy_from_slice(&m.out);
+        let answered = reply(theirs_call(&mut self.theirs, call, &mut expected));
+        let answer = match &mut self.boxed {
+            Some(b) => {
+                b.mailbox.out.copy_from_slice(&out[..16]);
+                let answer = b.call(|noise| operands(call, noise))?;
+                out[..16].copy_from_slice(&b.mailbox.out);
                 answer
             }
             None => {
@@ -118,7 +112,7 @@ impl Pair for Both {
                 answer
             }
         };
-        same("answer", reply, answer.reply())?;
+        same("answer", answered, answer.reply())?;
         same("output", expected, out)?;
         for (i, e) in self.ours().entries.iter().enumerate() {
             same(&format!("entry {i}"), self.theirs.entry(i).map(|(x, d)| (id(x), d)), e.live.then_some((e.task, e.deadline)))?;
@@ -146,7 +140,7 @@ impl Pair for Both {
     }
 
     fn copy(&mut self) -> Self {
-        Both { theirs: self.theirs.clone(), ours: self.ours, mailbox: self.mailbox.clone() }
+        Both { theirs: self.theirs.clone(), ours: self.ours, boxed: self.boxed.clone() }
     }
 
     fn all(&mut self, h: &mut DefaultHasher) {

@@ -1,6 +1,7 @@
 //! Two sides of each kind of table, the customer's Rust and our exported calls, made to do the same calls and compared after each.
 //! What is compared, and by which runs, is told in docs/ORACLE.md.
 
+pub mod boxed;
 pub mod deadlines;
 pub mod pair;
 pub mod ring;
@@ -12,6 +13,7 @@ pub mod waits;
 pub mod wakes;
 
 use bredumalt::{Reply, TaskId};
+use oracle::guarded::Refusal;
 use oracle::runqueue::TaskId as TheirId;
 
 /// The customer's id as ours.
@@ -27,6 +29,11 @@ pub fn their(t: TaskId) -> TheirId {
 /// An id that may be absent, as an answer.
 pub fn named(t: Option<TheirId>) -> Reply {
     Reply::Named(t.map(id))
+}
+
+/// What a call of the customer's answers, a refusal by its number.
+pub fn reply(answer: Result<Reply, Refusal>) -> Reply {
+    answer.unwrap_or_else(|Refusal(no)| Reply::Refused(no))
 }
 
 /// An id as scripts write it.

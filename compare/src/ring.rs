@@ -2,8 +2,10 @@
 
 use crate::pair::{Pair, Setup};
 use crate::rng::Rng;
-use crate::{for_size, id, named, same, their, written};
+use crate::{id, named, reply, same, their, written};
 use bredumalt::{Answer, Reply, RunQueue, TaskId, runqueue};
+use oracle::for_size;
+use oracle::guarded::Refusal;
 use oracle::runqueue::RunQueue as Theirs;
 use std::fmt;
 use std::hash::{DefaultHasher, Hash};
@@ -35,18 +37,21 @@ impl fmt::Display for Call {
 
 /// The customer's ring, whatever its size.
 trait Queue {
-    fn call(&mut self, c: Call) -> Reply;
+    fn call(&mut self, c: Call) -> Result<Reply, Refusal>;
     fn contents(&self) -> Vec<TaskId>;
     fn copy(&self) -> Box<dyn Queue>;
     fn all(&self, h: &mut DefaultHasher);
 }
 
 impl<const N: usize> Queue for Theirs<N> {
-    fn call(&mut self, c: Call) -> Reply {
-        match c {
-            Enqueue(x) => self.enqueue(their(x)).map_or(Reply::Refused(11), |_| Reply::Done),
+    fn call(&mut self, c: Call) -> Result<Reply, Refusal> {
+        Ok(match c {
+            Enqueue(x) => {
+                self.enqueue(their(x))?;
+                Reply::Done
+            }
             Dequeue => named(self.dequeue()),
-            AfterYield(x) => self.after_yield(x.map(their)).map_or(Reply::Refused(11), named),
+            AfterYield(x) => named(self.after_yield(x.map(their))?),
             Capacity => Reply::Number(self.capacity() as u64),
             Len => Reply::Number(self.len() as u64),
             IsEmpty => Reply::Told(self.is_empty()),
@@ -54,7 +59,7 @@ impl<const N: usize> Queue for Theirs<N> {
             Front => named(self.front()),
             // the Rust hands out its entries one by one
             ReadyAt(i) => Reply::Named(self.contents().get(i).copied()),
-        }
+        })
     }
     fn contents(&self) -> Vec<TaskId> {
         let mut all = Vec::new();
@@ -110,11 +115,11 @@ impl Pair for Both {
     fn fresh(setup: Setup) -> Self {
         let made = runqueue::new(setup.size);
         assert_eq!(made.answer.reply(), Reply::Done);
-        Both { theirs: for_size!(setup.size, Theirs), ours: made.queue }
+        Both { theirs: for_size!(setup.size, N => Box::new(Theirs::<N>::new())), ours: made.queue }
     }
 
     fn step(&mut self, call: Call) -> Result<(), String> {
-        let expected = self.theirs.call(call);
+        let expected = reply(self.theirs.call(call));
         let answer;
         (self.ours, answer) = by_value(self.ours, call);
         same("answer", expected, answer.reply())?;

@@ -1,5 +1,6 @@
 //! Random numbers from a seed (splitmix64), so that every run can be had again.
 
+#[derive(Clone)]
 pub struct Rng(u64);
 
 impl Rng {

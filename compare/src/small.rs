@@ -1,11 +1,14 @@
-//! What has no table: ids, `lifecycle`, and the calls that make tables.
+//! What random calls on one table do not reach: ids, `lifecycle`, the calls that make tables, the end of `overwrites`.
 
 use crate::rng::Rng;
+use crate::tasks::{Call, by_value};
 use crate::{id, same};
-use bredumalt::{Answer, Reply, ids, irqwait, parktime, runqueue, tasks, wake};
+use bredumalt::{Answer, EXIT, Reply, TaskId, Token, YIELD, ids, irqwait, parktime, runqueue, tasks, wake};
 use oracle::lifecycle::{CancelVerdict, ForceError, ForceVerdict, ReapError, ReapVerdict, cancel, force, reap};
+use oracle::plain::{self, WAKE_SIZES};
 use oracle::runqueue::TaskId as TheirId;
-use oracle::tasks::State;
+use oracle::tasks::{State, Switch, Tasks as TheirTasks};
+use std::panic::{AssertUnwindSafe, catch_unwind};
 
 /// Both ways of packing, at the edges and at random.
 pub fn packing(rng: &mut Rng, times: u64) -> Result<u64, String> {
@@ -16,8 +19,8 @@ pub fn packing(rng: &mut Rng, times: u64) -> Result<u64, String> {
             _ => rng.word() as u32,
         };
         let theirs = TheirId::from_raw(raw);
-        same(&format!("from_raw of {raw}"), id(theirs), ids::from_raw(raw))?;
-        same(&format!("to_raw of {theirs:?}"), theirs.to_raw(), ids::to_raw(id(theirs)))?;
+        same(&format!("from_raw of {raw}"), id(theirs), ids::from_raw(Token(raw)))?;
+        same(&format!("to_raw of {theirs:?}"), theirs.to_raw(), ids::to_raw(id(theirs)).0)?;
     }
     Ok(2 * times)
 }
@@ -52,6 +55,26 @@ pub fn lifecycle() -> Result<u64, String> {
     Ok(256 * 5)
 }
 
+/// The end of `overwrites`, which is outside the domain: at an exit that displaces a parked id ours stays there, and the Rust panics,
+/// since this crate is built with overflow checks. (Without them it wraps: see `oracle/src/bin/differences.rs`.)
+pub fn end_of_overwrites() -> Result<u64, String> {
+    let mut theirs = TheirTasks::<3>::new();
+    theirs.start();
+    theirs.admit();
+    theirs.admit();
+    theirs.switch(Switch::Yield);
+    theirs.switch(Switch::Exit);
+    theirs.set_overwrites(u32::MAX);
+    let panics = catch_unwind(AssertUnwindSafe(|| theirs.switch(Switch::Exit))).is_err();
+    let calls = [Call::Start, Call::Admit, Call::Admit, Call::Switch(YIELD), Call::Switch(EXIT)];
+    let mut ours = calls.into_iter().fold(tasks::new(3).tasks, |t, call| by_value(t, call).0);
+    ours.overwrites = u32::MAX;
+    let (after, answer) = by_value(ours, Call::Switch(EXIT));
+    let released = matches!(answer.reply(), Reply::Switch { release: Some(TaskId { slot: 1, epoch: 0 }), .. });
+    let stays = released && after.overwrites == u32::MAX;
+    if panics && stays { Ok(2) } else { Err(format!("at the end of overwrites: the Rust panics: {panics}; ours stays: {stays}")) }
+}
+
 /// Makers: 2 exactly for a size that is not listed, and every size's first table is sound. (That it is the Rust's first table, the runs
 /// show at their first call.)
 pub fn makers(rng: &mut Rng) -> Result<u64, String> {
@@ -60,11 +83,11 @@ pub fn makers(rng: &mut Rng) -> Result<u64, String> {
     sizes.extend((0..1000).map(|_| rng.word() as usize));
     let refused = |a: Answer| a.reply() == Reply::Refused(2);
     for &size in &sizes {
-        let listed = (1..=64).contains(&size);
+        let listed = plain::listed(size);
         let (t, q, w) = (tasks::new(size), runqueue::new(size), wake::new(size));
         same(&format!("tasks::new {size} refused"), !listed, refused(t.answer))?;
         same(&format!("runqueue::new {size} refused"), !listed, refused(q.answer))?;
-        same(&format!("wake::new {size} refused"), ![2, 4, 8, 16, 32, 64].contains(&size), refused(w.answer))?;
+        same(&format!("wake::new {size} refused"), !WAKE_SIZES.contains(&size), refused(w.answer))?;
         same(&format!("new {size} sound"), (true, true, true), (tasks::sound(t.tasks), runqueue::sound(q.queue), wake::sound(w.queue)))?;
     }
     same("irqwait::new sound", true, irqwait::sound(irqwait::new()))?;

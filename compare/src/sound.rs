@@ -1,10 +1,10 @@
-//! Document 01's "When a task table is sound" and the paragraph below it, for tables as they cross the boundary. The task table's
-//! clauses are read in `oracle::plain`; nothing here looks at the Rattle code's own tests.
+//! Tables as they cross the boundary, put to document 01's clauses as `oracle::plain` reads them. Nothing here looks at the Rattle code's
+//! own tests.
 
 use bredumalt::{RunQueue, Table, TaskId, Tasks, WaitTable, WakeQueue};
-use oracle::plain::Plain;
+use oracle::plain::{self, Id, Plain};
 
-fn pair(t: TaskId) -> (u16, u16) {
+fn pair(t: TaskId) -> Id {
     (t.slot, t.epoch)
 }
 
@@ -29,33 +29,20 @@ pub fn tasks(t: &Tasks) -> bool {
     plain.sound()
 }
 
-fn distinct<T: PartialEq>(all: &[T]) -> bool {
-    (0..all.len()).all(|i| !all[..i].contains(&all[i]))
-}
-
-/// "live cookies distinct, live ids distinct with slot below 64, each mark kept under its own slot"
 pub fn waits(t: &WaitTable) -> bool {
-    let live: Vec<_> = t.waiters.iter().filter(|w| w.live).collect();
-    let cookies: Vec<u32> = live.iter().map(|w| w.cookie).collect();
-    let ids: Vec<TaskId> = live.iter().map(|w| w.task).collect();
-    distinct(&cookies)
-        && distinct(&ids)
-        && ids.iter().all(|t| t.slot < 64)
-        && t.pending.iter().enumerate().all(|(slot, m)| !m.set || m.task.slot as usize == slot)
+    let live: Vec<(u32, Id)> = t.waiters.iter().filter(|w| w.live).map(|w| (w.cookie, pair(w.task))).collect();
+    plain::waits_sound(&live, &t.pending.map(|m| m.set.then_some(pair(m.task))))
 }
 
-/// "live ids distinct"
 pub fn deadlines(t: &Table) -> bool {
-    let ids: Vec<TaskId> = t.entries.iter().filter(|e| e.live).map(|e| e.task).collect();
-    distinct(&ids)
+    let live: Vec<Id> = t.entries.iter().filter(|e| e.live).map(|e| pair(e.task)).collect();
+    plain::deadlines_sound(&live)
 }
 
-/// "C listed, both indexes below C"
 pub fn wakes(q: &WakeQueue) -> bool {
-    [2, 4, 8, 16, 32, 64].contains(&q.c) && q.head < q.c && q.tail < q.c
+    plain::wakes_sound(q.c, q.head, q.tail)
 }
 
-/// "N listed, head below N, length at most N"
 pub fn ring(q: &RunQueue) -> bool {
-    (1..=64).contains(&q.n) && q.head < q.n && q.len <= q.n
+    plain::ring_sound(q.n, q.head, q.len)
 }

@@ -1,11 +1,12 @@
 //! The table of interrupt waits on both sides.
 
+use crate::boxed::{Boxed, answered};
 use crate::pair::{Pair, Setup};
 use crate::rng::Rng;
-use crate::tasks::answered;
-use crate::{id, named, same, their, written};
-use bredumalt::{Answer, Mailbox, Operands, Reply, TaskId, WaitTable, irqwait, mailbox};
-use oracle::irqwait::{ArmError, WaitTable as Theirs};
+use crate::{id, named, reply, same, their, written};
+use bredumalt::{Answer, Cookie, Operands, Reply, TaskId, WaitTable, irqwait, mailbox};
+use oracle::guarded::Refusal;
+use oracle::irqwait::WaitTable as Theirs;
 use std::fmt;
 use std::hash::{DefaultHasher, Hash};
 
@@ -32,15 +33,12 @@ impl fmt::Display for Call {
     }
 }
 
-fn theirs_call(t: &mut Theirs, c: Call) -> Reply {
-    match c {
-        Arm(c, x) => match t.arm(c, their(x)) {
-            Ok(()) => Reply::Done,
-            Err(ArmError::BadTask) => Reply::Refused(8),
-            Err(ArmError::CookieBusy) => Reply::Refused(9),
-            Err(ArmError::TaskBusy) => Reply::Refused(10),
-            Err(ArmError::Full) => Reply::Refused(11),
-        },
+fn theirs_call(t: &mut Theirs, c: Call) -> Result<Reply, Refusal> {
+    Ok(match c {
+        Arm(c, x) => {
+            t.arm(c, their(x))?;
+            Reply::Done
+        }
         Disarm(x) => {
             t.disarm_task(their(x));
             Reply::Done
@@ -48,7 +46,7 @@ fn theirs_call(t: &mut Theirs, c: Call) -> Reply {
         Signal(c) => named(t.signal(c)),
         Take(x) => Reply::Told(t.take_pending(their(x))),
         IsPending(x) => Reply::Told(t.is_pending(their(x))),
-    }
+    })
 }
 
 /// Entries and marks, each in its place.
@@ -66,21 +64,21 @@ fn compare(r: &Theirs, t: &WaitTable) -> Result<(), String> {
 
 pub fn by_value(t: WaitTable, c: Call) -> (WaitTable, Answer) {
     let changed = match c {
-        Arm(c, x) => irqwait::arm(t, c, x),
+        Arm(c, x) => irqwait::arm(t, Cookie(c), x),
         Disarm(x) => irqwait::disarm_task(t, x),
-        Signal(c) => irqwait::signal(t, c),
+        Signal(c) => irqwait::signal(t, Cookie(c)),
         Take(x) => irqwait::take_pending(t, x),
         IsPending(x) => return (t, irqwait::is_pending(t, x)),
     };
     (changed.table, changed.answer)
 }
 
-pub fn operands(c: Call) -> Operands {
-    let of = |call, id| Operands { call, id, word: 1, ..Operands::ZERO };
+pub fn operands(c: Call, noise: Operands) -> Operands {
+    let of = |call, id| Operands { call, id, ..noise };
     match c {
-        Arm(word, id) => Operands { call: mailbox::IRQWAIT_ARM, word, id, ..Operands::ZERO },
+        Arm(cookie, id) => Operands { call: mailbox::IRQWAIT_ARM, cookie: Cookie(cookie), id, ..noise },
         Disarm(x) => of(mailbox::IRQWAIT_DISARM_TASK, x),
-        Signal(word) => Operands { call: mailbox::IRQWAIT_SIGNAL, word, ..Operands::ZERO },
+        Signal(cookie) => Operands { call: mailbox::IRQWAIT_SIGNAL, cookie: Cookie(cookie), ..noise },
         Take(x) => of(mailbox::IRQWAIT_TAKE_PENDING, x),
         IsPending(x) => of(mailbox::IRQWAIT_IS_PENDING, x),
     }
@@ -89,12 +87,12 @@ pub fn operands(c: Call) -> Operands {
 pub struct Both {
     theirs: Theirs,
     ours: WaitTable,
-    mailbox: Option<Box<Mailbox>>,
+    boxed: Option<Boxed>,
 }
 
 impl Both {
     pub fn ours(&self) -> &WaitTable {
-        self.mailbox.as_ref().map_or(&self.ours, |m| &m.waits)
+        self.boxed.as_ref().map_or(&self.ours, |b| &b.mailbox.waits)
     }
 }
 
@@ -122,13 +120,13 @@ impl Pair for Both {
     const BIASES: &'static [&'static str] = &["even", "full", "marks", "few"];
 
     fn fresh(setup: Setup) -> Self {
-        let mailbox = setup.boxed.then(|| Box::new(Mailbox::new(1, 2)));
-        Both { theirs: Theirs::new(), ours: irqwait::new(), mailbox }
+        let boxed = setup.boxed.map(|seed| Boxed::new(1, 2, seed));
+        Both { theirs: Theirs::new(), ours: irqwait::new(), boxed }
     }
 
     fn step(&mut self, call: Call) -> Result<(), String> {
-        let expected = theirs_call(&mut self.theirs, call);
-        let answer = answered(&mut self.mailbox, operands(call), &mut self.ours, |ours| by_value(ours, call))?;
+        let expected = reply(theirs_call(&mut self.theirs, call));
+        let answer = answered(&mut self.boxed, |noise| operands(call, noise), &mut self.ours, |ours| by_value(ours, call))?;
         same("answer", expected, answer.reply())?;
         compare(&self.theirs, self.ours())
     }
@@ -145,7 +143,7 @@ impl Pair for Both {
     }
 
     fn copy(&mut self) -> Self {
-        Both { theirs: self.theirs.clone(), ours: self.ours, mailbox: self.mailbox.clone() }
+        Both { theirs: self.theirs.clone(), ours: self.ours, boxed: self.boxed.clone() }
     }
 
     fn all(&mut self, h: &mut DefaultHasher) {

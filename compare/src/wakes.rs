@@ -1,10 +1,11 @@
 //! The queue of wake tokens on both sides.
 
+use crate::boxed::{Boxed, answered};
 use crate::pair::{Pair, Setup};
 use crate::rng::Rng;
 use crate::same;
-use crate::tasks::answered;
-use bredumalt::{Answer, Mailbox, Operands, Reply, WakeQueue, mailbox, wake};
+use bredumalt::{Answer, Operands, Reply, Token, WakeQueue, mailbox, wake};
+use oracle::plain::WAKE_SIZES;
 use oracle::wake::WakeQueue as Theirs;
 use std::fmt;
 use std::hash::{DefaultHasher, Hash};
@@ -72,7 +73,7 @@ fn contents(q: &WakeQueue) -> Vec<u32> {
 
 pub fn by_value(q: WakeQueue, c: Call) -> (WakeQueue, Answer) {
     let changed = match c {
-        Push(t) => wake::push(q, t),
+        Push(t) => wake::push(q, Token(t)),
         Pop => wake::pop(q),
         Drops => return (q, wake::drops(q)),
         IsEmpty => return (q, wake::is_empty(q)),
@@ -80,10 +81,10 @@ pub fn by_value(q: WakeQueue, c: Call) -> (WakeQueue, Answer) {
     (changed.queue, changed.answer)
 }
 
-pub fn operands(c: Call) -> Operands {
-    let no = |call| Operands { call, word: 5, ..Operands::ZERO };
+pub fn operands(c: Call, noise: Operands) -> Operands {
+    let no = |call| Operands { call, ..noise };
     match c {
-        Push(word) => Operands { call: mailbox::WAKE_PUSH, word, ..Operands::ZERO },
+        Push(token) => Operands { call: mailbox::WAKE_PUSH, token: Token(token), ..noise },
         Pop => no(mailbox::WAKE_POP),
         Drops => no(mailbox::WAKE_DROPS),
         IsEmpty => no(mailbox::WAKE_IS_EMPTY),
@@ -93,12 +94,12 @@ pub fn operands(c: Call) -> Operands {
 pub struct Both {
     theirs: Box<dyn Queue>,
     ours: WakeQueue,
-    mailbox: Option<Box<Mailbox>>,
+    boxed: Option<Boxed>,
 }
 
 impl Both {
     pub fn ours(&self) -> &WakeQueue {
-        self.mailbox.as_ref().map_or(&self.ours, |m| &m.wakes)
+        self.boxed.as_ref().map_or(&self.ours, |b| &b.mailbox.wakes)
     }
 }
 
@@ -108,7 +109,7 @@ impl Pair for Both {
     const BIASES: &'static [&'static str] = &["even", "full", "empty"];
 
     fn listed(size: usize) -> bool {
-        [2, 4, 8, 16, 32, 64].contains(&size)
+        WAKE_SIZES.contains(&size)
     }
 
     fn fresh(setup: Setup) -> Self {
@@ -128,17 +129,17 @@ impl Pair for Both {
             theirs.set_drops(u32::MAX - 2);
             ours.drops = u32::MAX - 2;
         }
-        let mailbox = setup.boxed.then(|| {
-            let mut m = Mailbox::new(1, setup.size);
-            m.wakes = ours;
-            Box::new(m)
+        let boxed = setup.boxed.map(|seed| {
+            let mut b = Boxed::new(1, setup.size, seed);
+            b.mailbox.wakes = ours;
+            b
         });
-        Both { theirs, ours, mailbox }
+        Both { theirs, ours, boxed }
     }
 
     fn step(&mut self, call: Call) -> Result<(), String> {
         let expected = self.theirs.call(call);
-        let answer = answered(&mut self.mailbox, operands(call), &mut self.ours, |ours| by_value(ours, call))?;
+        let answer = answered(&mut self.boxed, |noise| operands(call, noise), &mut self.ours, |ours| by_value(ours, call))?;
         same("answer", expected, answer.reply())?;
         same("drops", self.theirs.drops(), self.ours().drops)?;
         same("contents", self.theirs.contents(), contents(self.ours()))
@@ -156,7 +157,7 @@ impl Pair for Both {
     }
 
     fn copy(&mut self) -> Self {
-        Both { theirs: self.theirs.copy(), ours: self.ours, mailbox: self.mailbox.clone() }
+        Both { theirs: self.theirs.copy(), ours: self.ours, boxed: self.boxed.clone() }
     }
 
     fn all(&mut self, h: &mut DefaultHasher) {

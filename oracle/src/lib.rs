@@ -1,6 +1,6 @@
 //! The customer's modules, as published, for our comparisons.
-#![allow(dead_code, clippy::all)]
 
+pub mod guarded;
 pub mod plain;
 pub mod script;
 

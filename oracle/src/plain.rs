@@ -1,7 +1,15 @@
-//! A task table with nothing hidden, in the layout that the Rattle code has, and document 01's "When a task table is sound"
-//! read clause by clause. Nothing here looks at the Rattle code's own test.
+//! Document 01's "When a task table is sound" and the paragraph below it, read clause by clause: a task table with nothing hidden,
+//! in the layout that the Rattle code has, and what counts of the other tables. Nothing here looks at the Rattle code's own tests.
 
 pub type Id = (u16, u16);
+
+/// The sizes that document 01 lists for a wake queue.
+pub const WAKE_SIZES: [usize; 6] = [2, 4, 8, 16, 32, 64];
+
+/// Whether document 01 lists N for a task table or a ring.
+pub fn listed(n: usize) -> bool {
+    (1..=64).contains(&n)
+}
 
 pub const EMPTY: u8 = 0;
 pub const READY: u8 = 1;
@@ -63,9 +71,8 @@ impl Plain {
     /// Equal to a table just made; where a ring starts is not compared.
     fn is_fresh(&self) -> bool {
         let slots = 0..self.n;
-        slots.clone().all(|s| {
-            self.states[s] == EMPTY && self.epochs[s] == 0 && self.homes[s] == 0 && !self.marks[s]
-        }) && self.lens == [0; 2]
+        slots.clone().all(|s| self.states[s] == EMPTY && self.epochs[s] == 0 && self.homes[s] == 0 && !self.marks[s])
+            && self.lens == [0; 2]
             && self.currents == [(0, 0); 2]
             && self.idles == [(0, 0); 2]
             && !self.parked
@@ -79,10 +86,7 @@ impl Plain {
         let mut seen = [false; 64];
         q.iter().all(|&id| {
             let s = id.0 as usize;
-            self.known(id)
-                && self.states[s] == READY
-                && self.homes[s] as usize == cpu
-                && !std::mem::replace(&mut seen[s], true)
+            self.known(id) && self.states[s] == READY && self.homes[s] as usize == cpu && !std::mem::replace(&mut seen[s], true)
         })
     }
 
@@ -113,9 +117,7 @@ impl Plain {
             && self.lens.iter().all(|&l| l <= self.n)
             && slots.clone().all(|s| self.homes[s] < 2)
             && (0..2).all(|c| self.queue_sound(c))
-            && slots.clone().filter(|&s| self.states[s] == READY).all(|s| {
-                (0..2).any(|c| self.queue(c).iter().any(|id| id.0 as usize == s))
-            })
+            && slots.clone().filter(|&s| self.states[s] == READY).all(|s| (0..2).any(|c| self.queue(c).iter().any(|id| id.0 as usize == s)))
             && slots.clone().all(|s| {
                 let current = (0..2).any(|c| self.started(c) && self.currents[c].0 as usize == s);
                 (self.states[s] == RUNNING) == current
@@ -127,9 +129,37 @@ impl Plain {
     }
 
     pub fn sound(&self) -> bool {
-        (1..=64).contains(&self.n)
+        listed(self.n)
             && self.states[..self.n].iter().all(|&s| s < 4)
             && self.heads.iter().all(|&h| h < self.n)
             && (self.is_fresh() || self.is_live())
     }
+}
+
+/// "N listed, head below N, length at most N"
+pub fn ring_sound(n: usize, head: usize, len: usize) -> bool {
+    listed(n) && head < n && len <= n
+}
+
+/// "C listed, both indexes below C"
+pub fn wakes_sound(c: usize, head: usize, tail: usize) -> bool {
+    WAKE_SIZES.contains(&c) && head < c && tail < c
+}
+
+fn distinct<T: PartialEq>(all: &[T]) -> bool {
+    (0..all.len()).all(|i| !all[..i].contains(&all[i]))
+}
+
+/// "live ids distinct"
+pub fn deadlines_sound(live: &[Id]) -> bool {
+    distinct(live)
+}
+
+/// "live cookies distinct, live ids distinct with slot below 64, each mark kept under its own slot"
+pub fn waits_sound(live: &[(u32, Id)], marks: &[Option<Id>]) -> bool {
+    let (cookies, ids): (Vec<u32>, Vec<Id>) = live.iter().copied().unzip();
+    distinct(&cookies)
+        && distinct(&ids)
+        && ids.iter().all(|id| id.0 < 64)
+        && marks.iter().enumerate().all(|(slot, mark)| mark.is_none_or(|id| id.0 as usize == slot))
 }

@@ -4,6 +4,7 @@
 use compare::pair::{Difference, Pair, Setup, exhaust, random, scripted};
 use compare::rng::Rng;
 use compare::{deadlines, ring, small, tasks, waits, wakes};
+use oracle::plain::WAKE_SIZES;
 use std::process::exit;
 use std::sync::atomic::Ordering::Relaxed;
 
@@ -52,7 +53,7 @@ impl Random {
         while left > 0 {
             let size = self.sizes[self.turn % self.sizes.len()];
             let bias = rng.below(P::BIASES.len());
-            let boxed = self.boxes && rng.one_in(4);
+            let boxed = (self.boxes && rng.one_in(4)).then(|| rng.word());
             let late = self.late && rng.one_in(4);
             let length = rng.of(&[30, 100, 300, 1000, 3000]).min(left as usize + 10);
             let done = or_stop(random::<P>(Setup { size, boxed, late }, bias, length, rng));
@@ -65,7 +66,7 @@ impl Random {
 }
 
 fn exhausted<P: Pair>(size: usize, budget: u64, tally: &mut Tally) {
-    let setup = Setup { size, boxed: false, late: false };
+    let setup = Setup { size, boxed: None, late: false };
     let (calls, depth, closed) = or_stop(exhaust::<P>(setup, budget));
     let size = if size > 0 { format!(" of {size}") } else { String::new() };
     let end = if closed { "every table that its calls reach".into() } else { format!("all sequences of {depth}") };
@@ -94,7 +95,7 @@ fn main() {
 
     // task tables first by all sequences, where a difference is the shortest there is
     for size in 1..=4 {
-        exhausted::<tasks::Both>(size, goal / 30, &mut tally);
+        exhausted::<tasks::Both>(size, goal / 15, &mut tally);
     }
     for size in [1, 2, 3] {
         exhausted::<ring::Both>(size, goal / 100, &mut tally);
@@ -106,7 +107,7 @@ fn main() {
     exhausted::<deadlines::Both>(0, goal / 100, &mut tally);
 
     let mut of_tasks = Random::new((1..=64).collect(), true, true);
-    let mut of_wakes = Random::new(vec![2, 4, 8, 16, 32, 64], true, true);
+    let mut of_wakes = Random::new(WAKE_SIZES.to_vec(), true, true);
     let mut of_waits = Random::new(vec![0], true, false);
     let mut of_deadlines = Random::new(vec![0], true, false);
     let mut of_rings = Random::new((1..=64).collect(), false, false);
@@ -121,9 +122,11 @@ fn main() {
     }
     let wraps: &[(usize, u8)] = if goal > 10_000_000 { &[(2, 0), (3, 0), (3, 1), (57, 0), (64, 1)] } else { &[(2, 0)] };
     for &(size, cpu) in wraps {
-        let setup = Setup { size, boxed: false, late: false };
+        let setup = Setup { size, boxed: None, late: false };
         tally.add("task table epoch wrap", or_stop(scripted::<tasks::Both>(setup, tasks::wrap(size, cpu))));
     }
+
+    tally.add("end of overwrites", or_say(small::end_of_overwrites()));
 
     let kinds: Vec<String> = tally.0.iter().map(|(k, n)| format!("{k} {n}")).collect();
     let met: Vec<String> = tasks::MET.iter().zip(&tasks::TIMES).map(|(k, n)| format!("{k} {}", n.load(Relaxed))).collect();

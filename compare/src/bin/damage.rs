@@ -1,14 +1,16 @@
 //! Hands damaged tables to every call over the boundary. The answer has to be 1 exactly when document 01's clauses, as `compare::sound`
 //! reads them, say that the table is not sound; after any refusal the table has to be the one that was given.
-//! `damage short` tries 100,000 tables; `damage long [TABLES]` 2,000,000.
+//! `damage short` tries 100,000 tables from a fixed seed; `damage long SEED [TABLES]` 2,000,000.
 
 use bredumalt::{
     Answer, Entry, Mailbox, Mark, Operands, Reply, RunQueue, Table, TaskId, Tasks, WaitTable, Waiter, WakeQueue, irqwait, parktime,
     runqueue, wake,
 };
+use compare::boxed::{by_mailbox, noise};
 use compare::pair::{Pair, Setup};
 use compare::rng::Rng;
 use compare::{deadlines, ring, sound, tasks, waits, wakes};
+use oracle::plain::WAKE_SIZES;
 use std::process::exit;
 
 /// How many tables there were of one kind, how many of them sound, and how many calls they got.
@@ -256,7 +258,7 @@ fn task_calls(rng: &mut Rng, t: &Tasks) -> Vec<tasks::Call> {
 
 /// The call once more, through the mailbox: the same answer and the same table.
 fn boxed<T: PartialEq>(m: &mut Mailbox, operands: Operands, after: &T, answer: Answer, own: impl Fn(&Mailbox) -> &T) {
-    let got = tasks::by_mailbox(m, operands);
+    let got = by_mailbox(m, operands);
     insist(got == Ok(answer) && own(m) == after, || format!("{operands:?} through the mailbox: {got:?}, by value {answer:?}"));
 }
 
@@ -271,7 +273,7 @@ fn try_tasks(rng: &mut Rng, t: &Tasks, m: &mut Mailbox, count: &mut Count) {
         let (after, answer) = tasks::by_value(*t, call);
         judge(t, is_sound, &call, &after, answer, sound::tasks);
         m.tasks = *t;
-        boxed(m, tasks::operands(call), &after, answer, |m| &m.tasks);
+        boxed(m, tasks::operands(call, noise(rng)), &after, answer, |m| &m.tasks);
     }
     m.tasks = *t;
     count.tables += 1;
@@ -332,7 +334,7 @@ fn try_waits(rng: &mut Rng, t: &WaitTable, m: &mut Mailbox, count: &mut Count) {
         let (after, answer) = waits::by_value(*t, call);
         judge(t, is_sound, &call, &after, answer, sound::waits);
         m.waits = *t;
-        boxed(m, waits::operands(call), &after, answer, |m| &m.waits);
+        boxed(m, waits::operands(call, noise(rng)), &after, answer, |m| &m.waits);
         count.calls += 2;
     }
     count.tables += 1;
@@ -383,7 +385,7 @@ fn try_deadlines(rng: &mut Rng, t: &Table, m: &mut Mailbox, count: &mut Count) {
         if !matches!(call, Poll(_, ..16)) {
             m.deadlines = *t;
             m.out.copy_from_slice(&given[..16]);
-            boxed(m, deadlines::operands(call), &after, answer, |m| &m.deadlines);
+            boxed(m, deadlines::operands(call, noise(rng)), &after, answer, |m| &m.deadlines);
             insist(m.out[..] == out[..16], || format!("{call}: the mailbox has another output"));
             count.calls += 1;
         }
@@ -396,7 +398,7 @@ fn try_deadlines(rng: &mut Rng, t: &Table, m: &mut Mailbox, count: &mut Count) {
 fn any_wakes(rng: &mut Rng, small: bool) -> WakeQueue {
     let number = |rng: &mut Rng| if small { rng.below(70) } else { rng.word() as usize };
     WakeQueue {
-        c: if small { rng.of(&[2, 4, 8, 16, 32, 64]) } else { number(rng) },
+        c: if small { rng.of(&WAKE_SIZES) } else { number(rng) },
         head: number(rng),
         tail: number(rng),
         drops: rng.word() as u32,
@@ -422,7 +424,7 @@ fn try_wakes(rng: &mut Rng, q: &WakeQueue, m: &mut Mailbox, count: &mut Count) {
         let (after, answer) = wakes::by_value(*q, call);
         judge(q, is_sound, &call, &after, answer, sound::wakes);
         m.wakes = *q;
-        boxed(m, wakes::operands(call), &after, answer, |m| &m.wakes);
+        boxed(m, wakes::operands(call, noise(rng)), &after, answer, |m| &m.wakes);
         count.calls += 2;
     }
     count.tables += 1;
@@ -478,13 +480,13 @@ struct Walk<P: Pair> {
 
 impl<P: Pair> Walk<P> {
     fn new(sizes: Vec<usize>) -> Self {
-        let pair = P::fresh(Setup { size: sizes[0], boxed: false, late: false });
+        let pair = P::fresh(Setup { size: sizes[0], boxed: None, late: false });
         Walk { pair, left: 0, bias: 0, sizes }
     }
 
     fn on(&mut self, rng: &mut Rng) -> &P {
         if self.left == 0 {
-            self.pair = P::fresh(Setup { size: rng.of(&self.sizes), boxed: false, late: rng.one_in(4) });
+            self.pair = P::fresh(Setup { size: rng.of(&self.sizes), boxed: None, late: rng.one_in(4) });
             (self.left, self.bias) = (rng.of(&[10, 50, 300]), rng.below(P::BIASES.len()));
         }
         self.left -= 1;
@@ -503,21 +505,21 @@ fn damaged<T>(rng: &mut Rng, t: &mut T, damage: impl Fn(&mut Rng, &mut T)) {
 
 fn main() {
     let args: Vec<String> = std::env::args().skip(1).collect();
-    let goal = match args.first().map(String::as_str) {
-        Some("short") => 100_000,
-        Some("long") => args.get(1).map_or(2_000_000, |a| a.parse().expect("a number")),
+    let number = |i: usize, otherwise| args.get(i).map_or(otherwise, |a| a.parse::<u64>().expect("a number"));
+    let (seed, goal) = match args.first().map(String::as_str) {
+        Some("short") => (7, 100_000),
+        Some("long") => (number(1, 7), number(2, 2_000_000)),
         _ => {
-            eprintln!("damage short | damage long [TABLES]");
+            eprintln!("damage short | damage long SEED [TABLES]");
             exit(2)
         }
     };
-    let mut rng = Rng::new(7);
-    let rng = &mut rng;
+    let rng = &mut Rng::new(seed);
     let mut m = Mailbox::new(4, 8);
     let mut walked_tasks = Walk::<tasks::Both>::new((1..=64).collect());
     let mut walked_waits = Walk::<waits::Both>::new(vec![0]);
     let mut walked_deadlines = Walk::<deadlines::Both>::new(vec![0]);
-    let mut walked_wakes = Walk::<wakes::Both>::new(vec![2, 4, 8, 16, 32, 64]);
+    let mut walked_wakes = Walk::<wakes::Both>::new(WAKE_SIZES.to_vec());
     let mut walked_rings = Walk::<ring::Both>::new((1..=64).collect());
     let [mut of_tasks, mut of_waits, mut of_deadlines, mut of_wakes, mut of_rings]: [Count; 5] = Default::default();
     for _ in 0..goal / 10 {
@@ -550,5 +552,5 @@ fn main() {
     let kinds = [("task", of_tasks), ("wait", of_waits), ("deadline", of_deadlines), ("wake", of_wakes), ("ring", of_rings)];
     let total: u64 = kinds.iter().map(|(_, c)| c.tables).sum();
     let each: Vec<String> = kinds.iter().map(|(k, c)| format!("{k} {} ({} sound, {} calls)", c.tables, c.sound, c.calls)).collect();
-    println!("1 exactly for what is not sound, and refused tables as they were: {total} tables: {}", each.join("; "));
+    println!("1 exactly for what is not sound, and refused tables as they were: {total} tables (seed {seed}): {}", each.join("; "));
 }

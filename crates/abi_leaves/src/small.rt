@@ -7,18 +7,17 @@ use ids::TaskId;
 use ids::Token;
 
 #[no_mangle]
-pub extern "C" fn bredumalt_ids_to_raw(id: TaskId) -> u32
-    ensures { λ r. ⌜ r ≡ packed id ⌝ }
+pub extern "C" fn bredumalt_ids_to_raw(id: TaskId) -> Token
+    ensures { λ r. ⌜ r .0 ≡ packed id ⌝ }
 {
-    let raw = id.to_raw();
-    raw.0
+    id.to_raw()
 }
 
 #[no_mangle]
-pub extern "C" fn bredumalt_ids_from_raw(raw: u32) -> TaskId
-    ensures { λ r. ⌜ r ≡ unpacked raw ⌝ }
+pub extern "C" fn bredumalt_ids_from_raw(raw: Token) -> TaskId
+    ensures { λ r. ⌜ r ≡ unpacked (raw .0) ⌝ }
 {
-    TaskId::from_raw(Token(raw))
+    TaskId::from_raw(raw)
 }
 
 // A state crosses as its code; any other number says that the id is not known.

@@ -31,10 +31,14 @@ pub extern "C" fn bredumalt_irqwait_sound(table: WaitTable) -> bool
 }
 
 #[no_mangle]
-pub extern "C" fn bredumalt_irqwait_arm(table: WaitTable, cookie: u32, task: TaskId) -> WaitsAnswer
-    ensures { λ r. ⌜ Crossed (r .answer) (λ got. Meets waits table (r .table) got (armStep (view table) cookie task)) ⌝ }
+pub extern "C" fn bredumalt_irqwait_arm(
+    table: WaitTable,
+    cookie: Cookie,
+    task: TaskId,
+) -> WaitsAnswer
+    ensures { λ r. ⌜ Crossed (r .answer) (λ got. Meets waits table (r .table) got (armStep (view table) (cookie .0) task)) ⌝ }
 {
-    let done = table.arm(Cookie(cookie), task);
+    let done = table.arm(cookie, task);
     let table = done.table;
     let answer = done.answer;
     WaitsAnswer {
@@ -57,10 +61,10 @@ pub extern "C" fn bredumalt_irqwait_disarm_task(table: WaitTable, task: TaskId) 
 }
 
 #[no_mangle]
-pub extern "C" fn bredumalt_irqwait_signal(table: WaitTable, cookie: u32) -> WaitsAnswer
-    ensures { λ r. ⌜ Crossed (r .answer) (λ got. Meets waits table (r .table) got (signalStep (view table) cookie)) ⌝ }
+pub extern "C" fn bredumalt_irqwait_signal(table: WaitTable, cookie: Cookie) -> WaitsAnswer
+    ensures { λ r. ⌜ Crossed (r .answer) (λ got. Meets waits table (r .table) got (signalStep (view table) (cookie .0))) ⌝ }
 {
-    let done = table.signal(Cookie(cookie));
+    let done = table.signal(cookie);
     let table = done.table;
     let answer = done.answer;
     WaitsAnswer {

@@ -49,10 +49,10 @@ pub extern "C" fn bredumalt_wake_is_empty(queue: WakeQueue) -> Answer
 }
 
 #[no_mangle]
-pub extern "C" fn bredumalt_wake_push(queue: WakeQueue, token: u32) -> WakesAnswer
-    ensures { λ r. ⌜ Crossed (r .answer) (λ got. Meets wakes queue (r .queue) got (pushStep (view queue) token)) ⌝ }
+pub extern "C" fn bredumalt_wake_push(queue: WakeQueue, token: Token) -> WakesAnswer
+    ensures { λ r. ⌜ Crossed (r .answer) (λ got. Meets wakes queue (r .queue) got (pushStep (view queue) (token .0))) ⌝ }
 {
-    let done = queue.push(Token(token));
+    let done = queue.push(token);
     let queue = done.queue;
     let answer = done.answer;
     WakesAnswer {

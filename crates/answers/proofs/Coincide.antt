@@ -1,5 +1,5 @@
 -- Document 01, "What the contracts have to nail": any two outcomes that a contract admits coincide. Proved once, for
--- every kind of table and every call, since every contract has one of these three shapes.
+-- every kind of table and every call on a table, since the contract of such a call has one of these three shapes.
 use mathlib.Core.Path.{_≡_, sym, _∙_, ap}
 use Prim.Native.Nat.{ℕ}
 use native.Mathlib.Decide.{ℕ-discrete}
@@ -22,7 +22,7 @@ is-bad (value v) = no (λ e. let z : _≡_ {A = ℕ} 0 1 = cc in omega arith)
 is-bad stays = no (λ e. let z : _≡_ {A = ℕ} 0 1 = cc in omega arith)
 is-bad (switched a b c) = no (λ e. let z : _≡_ {A = ℕ} 0 1 = cc in omega arith)
 
--- two outcomes: the answers are one, the tables are equal as document 01 compares them, and on a refusal they are one
+-- two outcomes: the replies are one, the tables are equal as document 01 compares them, and on a refusal they are one
 pub record Same (k : Kind) (u v : k .Memory) (a b : Reply) : Type 0 where
   pub reply : a ≡ b
   pub after : k .view u ≡ k .view v
@@ -44,6 +44,14 @@ module _ (k : Kind) where
   -- on a sound table a call of the product does what its inner call does
   pub meets-does : (t u : k .Memory) (got : Reply) (want : Step (k .Plain)) → k .Sound t → Meets k t u got want → Does k t u got want
   meets-does t u got want s m = m .good (λ e. m .bad e .0 s) .1
+
+  -- whatever the table, a refusal hands it back
+  pub meets-kept : (t u : k .Memory) (got : Reply) (want : Step (k .Plain)) → Meets k t u got want → Refused got → u ≡ t
+  meets-kept t u got want m r = go (is-bad got)
+    where
+      go : Dec (got ≡ refused 1) → u ≡ t
+      go (yes x) = m .bad x .1
+      go (no x) = m .good x .1 .kept r
 
   pub coincide : (t u v : k .Memory) (a b : Reply) (want : Step (k .Plain)) → Meets k t u a want → Meets k t v b want → Same k u v a b
   coincide t u v a b want m n = go (is-bad a) (is-bad b)

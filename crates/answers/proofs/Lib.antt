@@ -1,2 +1,5 @@
 pub mod Coincide
+pub mod Apart
+pub mod Part
+pub mod Follow
 pub mod Returns

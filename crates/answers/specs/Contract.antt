@@ -23,6 +23,10 @@ pub record Step (P : Type 0) : Type 0 where
 abbrev pub refusing : {P : Type 0} → ℕ → P → Step P
 refusing n p = record { reply = refused n; after = p }
 
+-- the step of a table that is part of another, as a step of the whole
+abbrev pub put : {P Q : Type 0} → (P → Q) → Step P → Step Q
+put into s = record { reply = s .reply; after = into (s .after) }
+
 -- a call that makes a table: the answer and the table are the model's, and the table is sound
 pub record Makes (k : Kind) (u : k .Memory) (got : Reply) (want : Step (k .Plain)) : Type 0 where
   pub reply : got ≡ want .reply

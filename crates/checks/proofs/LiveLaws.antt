@@ -9,11 +9,12 @@ use native.Mathlib.Decide.{ℕ-discrete}
 use borrow.Author.Tests.{ne-eqb}
 use lib.ListN.{length, getD}
 use Rattle.lists.specs.Tab.{tab}
+use Rattle.lists.specs.Search.{one-if}
 use Rattle.lists.proofs.Basics.{true-or-false, not-both}
 use Rattle.ids.specs.declared.TaskId.{TaskId}
 use Rattle.ids.specs.Id.{EPOCHS, idle}
 use Rattle.model.specs.Model.{Model, MOST, CPUS, EMPTY, READY, RUNNING, stateOf}
-use Rattle.model.specs.Sound.{one-if, occ, readyOn, SlotOk, OnOk, CpuOk, Live}
+use Rattle.model.specs.Sound.{occ, readyOn, SlotOk, OnOk, CpuOk, Live}
 use Rattle.memory.specs.declared.Tasks.{Tasks}
 use Rattle.memory.specs.View.{view}
 use Rattle.memory.proofs.ViewLaws.{view-n, view-state, view-epoch, view-home, view-mark, view-current, view-idle}

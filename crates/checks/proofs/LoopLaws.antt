@@ -12,14 +12,13 @@ use lib.Dec.{eqb}
 use lib.ListN.{getD}
 use Rattle.lists.specs.Tells.{Tells}
 use Rattle.lists.specs.Tab.{tab}
-use Rattle.lists.specs.Search.{countOf}
+use Rattle.lists.specs.Search.{countOf, one-if}
 use Rattle.lists.proofs.Basics.{not-both, tells-yes, tells-by}
 use Rattle.lists.proofs.TabLaws.{tab-snoc}
 use Rattle.ids.specs.declared.TaskId.{TaskId}
 use Rattle.ids.specs.Id.{sameId}
 use Rattle.ids.proofs.IdLaws.{same-self}
 use Rattle.model.specs.Model.{EMPTY}
-use Rattle.model.specs.Sound.{one-if}
 use Rattle.checks.specs.Parts.{SlotFits, Misfits, occupiedIn, SlotsFit}
 
 pub not-same : {a b : TaskId} → sameId a b ≡ false → a ≡ b → ⊥

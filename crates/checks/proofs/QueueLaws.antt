@@ -9,11 +9,12 @@ use lib.Dec.{eqb}
 use lib.ListN.{length, getD, set, length-set, length-replicate}
 use lib.Seq.{getD-set-same, getD-set-other}
 use Rattle.lists.specs.Tab.{tab}
+use Rattle.lists.specs.Search.{one-if}
 use Rattle.lists.proofs.Basics.{getD-all}
 use Rattle.lists.proofs.TabLaws.{tab-snoc}
 use Rattle.ids.specs.declared.TaskId.{TaskId}
 use Rattle.model.specs.Model.{MOST, EMPTY, READY}
-use Rattle.model.specs.Sound.{one-if, occ}
+use Rattle.model.specs.Sound.{occ}
 use Rattle.checks.specs.Walk.{notesAt, Passes}
 use Rattle.checks.specs.Parts.{noNotes, noted, Homed, Free, QueueFits, queueNotes, QueuesFit, queuesNotes}
 use Rattle.checks.proofs.WalkLaws.{passes-at}

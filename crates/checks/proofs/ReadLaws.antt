@@ -11,7 +11,7 @@ use lib.Dec.{eqb}
 use lib.ListN.{length, getD, take}
 use lib.Seq.{getD-take, length-take-le, ext-getD}
 use Rattle.lists.specs.Tab.{tab}
-use Rattle.lists.specs.Search.{countOf}
+use Rattle.lists.specs.Search.{countOf, one-if}
 use Rattle.lists.specs.Entries.{Holds}
 use Rattle.lists.proofs.Basics.{not-both, both-true}
 use Rattle.lists.proofs.TabLaws.{length-tab, getD-tab}
@@ -20,7 +20,7 @@ use Rattle.ids.specs.Id.{EPOCHS, sameId, idle}
 use Rattle.ids.proofs.IdLaws.{same-eq}
 use Rattle.runqueue.specs.Ring.{around}
 use Rattle.model.specs.Model.{Model, CPUS, EMPTY, READY, stateOf, homeOf, queueOf, startedOn, occupied}
-use Rattle.model.specs.Sound.{one-if, Known, AllKnown, readyOn, ParkedOk}
+use Rattle.model.specs.Sound.{Known, AllKnown, readyOn, ParkedOk}
 use Rattle.memory.specs.declared.Tasks.{Tasks}
 use Rattle.memory.specs.View.{view}
 use Rattle.memory.proofs.ViewLaws.{view-n, view-state, view-epoch, view-home, view-idle}

@@ -8,6 +8,7 @@ use native.Mathlib.Omega.{arith}
 use borrow.Author.Tests.{eqb-true, eqb-false, eq-eqb, ne-eqb, lt-leb, leb-false, not-false}
 use lib.Dec.{eqb, leb}
 use lib.ListN.{getD, set}
+use Rattle.lists.specs.Search.{one-if}
 use Rattle.lists.specs.Tells.{Tells}
 use Rattle.lists.proofs.Basics.{not-both, tells-yes, tells-no, tells-by}
 use Rattle.ids.specs.declared.TaskId.{TaskId}
@@ -15,7 +16,7 @@ use Rattle.ids.specs.Id.{sameId, idle}
 use Rattle.ids.proofs.IdLaws.{same-eq, same-self}
 use Rattle.runqueue.specs.Ring.{placed, idAt, Fit}
 use Rattle.model.specs.Model.{CPUS, STATES, EMPTY, READY, RUNNING, bump}
-use Rattle.model.specs.Sound.{one-if, Active}
+use Rattle.model.specs.Sound.{Active}
 use Rattle.memory.specs.View.{SPAN}
 use Rattle.checks.specs.Walk.{Notes}
 use Rattle.checks.specs.Parts.{RingsFit, asked, Misfits, noted, Homed, Free, entryAt, isOn, IdleFits, OnFits, CpuFits, cpuNotes, SlotFits, ParkedFits}

@@ -7,8 +7,8 @@ use native.Mathlib.Omega.{arith}
 use native.Mathlib.Decide.{ℕ-discrete}
 use borrow.Author.Tests.{eq-eqb, ne-eqb}
 use lib.Dec.{eqb}
+use Rattle.lists.specs.Search.{one-if}
 use Rattle.model.specs.Model.{CPUS, STATES, READY, RUNNING, BLOCKED}
-use Rattle.model.specs.Sound.{one-if}
 use Rattle.checks.specs.Parts.{asked}
 
 pub one-most : (b : Bool) → one-if b ≤ 1

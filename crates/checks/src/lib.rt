@@ -5,16 +5,21 @@ ghost use mathlib.Core.Bool.{Bool, true};
 ghost use Prim.Native.Nat.{ℕ, _≤_, _<_};
 ghost use lib.Dec.{eqb};
 ghost use lib.ListN.{getD};
+ghost use Rattle.lists.specs.Search.{one-if};
 ghost use Rattle.lists.specs.Tells.{Tells};
 ghost use Rattle.ids.specs.Id.{EPOCHS};
 ghost use Rattle.runqueue.specs.Ring.{Fit};
 ghost use Rattle.model.specs.Model.{MOST, CPUS, RUNNING};
-ghost use Rattle.model.specs.Sound.{one-if};
 ghost use Rattle.memory.specs.View.{Sound};
 ghost use Rattle.checks.specs.Walk.{Notes};
 ghost use Rattle.checks.specs.Parts.{whole, RingsFit, noted, Homed, Free, entryAt, entries, QueueFits, queueNotes, QueuesFit, queuesNotes, IdleFits, OnFits, CpuFits, cpuNotes, CpusFit, cpusNotes, asked, Misfits, SlotsFit, ParkedFits, LiveFits, SlotBlank, CpuBlank, FreshFits};
 use ids::TaskId;
 use memory::Tasks;
+
+// How many states there are, and how many homes: one for each CPU.
+const STATES: u8 = 4;
+
+const HOMES: u8 = 2;
 
 // The table without its long arrays.
 pub struct Small {
@@ -104,7 +109,7 @@ fn queue_fits<'a>(
             slot: ring_slots[at],
             epoch: ring_epochs[at],
         };
-        if !note(epochs, homes, want, n, c, id, 1) {
+        if !note(epochs, homes, want, n, c, id, memory::READY) {
             return false;
         }
         j = j + 1;
@@ -126,7 +131,7 @@ fn queues_fit<'a>(
     ensures { λ r. ⌜ Notes r (QueuesFit (now (epochs .entry)) (now (homes .entry)) n (entries (now («ring_slots» .entry)) (now («ring_epochs» .entry)) n heads) lens CPUS (now (want .entry))) (queuesNotes (entries (now («ring_slots» .entry)) (now («ring_epochs» .entry)) n heads) lens CPUS (now (want .entry))) (now (want .exit)) ⌝ }
 {
     let mut c: usize = 0;
-    while c < 2 {
+    while c < memory::CPUS {
         let head = heads[c];
         let len = lens[c];
         if !queue_fits(
@@ -167,10 +172,10 @@ fn idle_fits<'a>(
     if marks[s] {
         return false;
     }
-    if states[s] == 1 {
+    if states[s] == memory::READY {
         return true;
     }
-    states[s] == 2
+    states[s] == memory::RUNNING
 }
 
 // Notes the current of a started CPU as Running.
@@ -188,7 +193,7 @@ fn on_fits<'a>(
     requires { ⌜ n ≤ MOST ⌝ }
     ensures { λ r. ⌜ Notes r (OnFits (now (states .entry)) (now (epochs .entry)) (now (homes .entry)) (now (marks .entry)) n c current own (now (want .entry))) (noted RUNNING current (now (want .entry))) (now (want .exit)) ⌝ }
 {
-    if !note(epochs, homes, want, n, c, current, 2) {
+    if !note(epochs, homes, want, n, c, current, memory::RUNNING) {
         return false;
     }
     idle_fits(states, epochs, homes, marks, n, c, own)
@@ -235,7 +240,7 @@ fn cpus_fit<'a>(
     ensures { λ r. ⌜ Notes r (CpusFit (now (states .entry)) (now (epochs .entry)) (now (homes .entry)) (now (marks .entry)) n currents idles CPUS (now (want .entry))) (cpusNotes currents idles CPUS (now (want .entry))) (now (want .exit)) ⌝ }
 {
     let mut c: usize = 0;
-    while c < 2 {
+    while c < memory::CPUS {
         let current = currents[c];
         let own = idles[c];
         if !cpu_fits(states, epochs, homes, marks, want, n, c, current, own) {
@@ -256,14 +261,18 @@ fn flag(b: bool) -> u8
 fn note_for(state: u8) -> u8
     ensures { λ r. ⌜ r ≡ asked state ⌝ }
 {
-    if state == 3 { 0 } else { state }
+    if state == memory::BLOCKED {
+        memory::EMPTY
+    } else {
+        state
+    }
 }
 
 // How many tests a slot fails. The sum of these is quicker than a way out of the loop at the first.
 fn misfits(state: u8, home: u8, note: u8) -> u8
     ensures { λ r. ⌜ Misfits state home note r ⌝ }
 {
-    flag(4 <= state) + flag(2 <= home) + flag(note_for(state) != note)
+    flag(STATES <= state) + flag(HOMES <= home) + flag(note_for(state) != note)
 }
 
 fn slots_fit<'a>(states: &'a [u8; 64], homes: &'a [u8; 64], want: &'a [u8; 64], n: usize) -> Slots
@@ -276,7 +285,7 @@ fn slots_fit<'a>(states: &'a [u8; 64], homes: &'a [u8; 64], want: &'a [u8; 64], 
     while i < n {
         let state = states[i];
         bad = bad + misfits(state, homes[i], want[i]);
-        used = used + flag(state != 0);
+        used = used + flag(state != memory::EMPTY);
         i = i + 1;
     }
     Slots {
@@ -305,7 +314,7 @@ fn parked_fits<'a>(
     if n <= s {
         return false;
     }
-    if states[s] != 0 {
+    if states[s] != memory::EMPTY {
         return false;
     }
     std::num::wrapping_add_u16(id.epoch, 1) == epochs[s]
@@ -371,7 +380,7 @@ fn slots_blank<'a>(
 {
     let mut i: usize = 0;
     while i < n {
-        if states[i] != 0 {
+        if states[i] != memory::EMPTY {
             return false;
         }
         if epochs[i] != 0 {
@@ -392,7 +401,7 @@ fn cpus_blank(lens: [usize; 2], currents: [TaskId; 2], idles: [TaskId; 2]) -> bo
     ensures { λ r. ⌜ Tells r ((c : ℕ) → c < CPUS → CpuBlank lens currents idles c) ⌝ }
 {
     let mut c: usize = 0;
-    while c < 2 {
+    while c < memory::CPUS {
         if lens[c] != 0 {
             return false;
         }
@@ -451,7 +460,7 @@ fn rings_fit(n: usize, heads: [usize; 2], lens: [usize; 2]) -> bool
         return false;
     }
     let mut c: usize = 0;
-    while c < 2 {
+    while c < memory::CPUS {
         if n <= heads[c] {
             return false;
         }
@@ -497,7 +506,7 @@ pub fn sound_parts<'a>(
     if !rings_fit(rest.n, heads, lens) {
         return false;
     }
-    if states[0] == 0 {
+    if states[0] == memory::EMPTY {
         return is_fresh(states, epochs, homes, marks, rest);
     }
     is_live(states, epochs, homes, marks, ring_slots, ring_epochs, rest)

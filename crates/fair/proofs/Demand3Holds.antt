@@ -3,11 +3,11 @@ use mathlib.Core.Path.{_≡_, refl, sym, _∙_, ap, subst}
 use mathlib.Core.Bool.{Bool, true, false}
 use mathlib.Core.List.{List, [], _∷_, _++_}
 use mathlib.Core.Option.{Option}
-use Prim.Native.Nat.{ℕ, _+_, _-_, _≤_, _<_}
+use Prim.Native.Nat.{ℕ, _+_, _-_, _≤_, _<_, min}
 use native.Mathlib.Nat.{add-mul}
 use native.Mathlib.Omega.{arith}
 use lib.ListN.{take, drop, take-append-drop}
-use Rattle.lists.specs.Search.{anyOf, firstAt}
+use Rattle.lists.specs.Search.{anyOf, firstAt, one-if}
 use Rattle.lists.specs.Entries.{isThere, taken}
 use Rattle.lists.proofs.Basics.{not-both}
 use Rattle.lists.proofs.SearchLaws.{first-hit}
@@ -15,7 +15,7 @@ use Rattle.ids.specs.declared.TaskId.{TaskId}
 use Rattle.ids.specs.Id.{sameId}
 use Rattle.answers.specs.Run.{left}
 use Rattle.model.specs.Model.{Model, CPUS, MOST, queueOf, fresh}
-use Rattle.model.specs.Sound.{one-if, occ, Live, Sound}
+use Rattle.model.specs.Sound.{occ, Live, Sound}
 use Rattle.model.specs.Calls.{Call, step}
 use Rattle.model.proofs.Counting.{occ-append, room}
 use Rattle.model.proofs.Facts.{by-test}
@@ -34,9 +34,8 @@ record Watched (n k : ℕ) (q : List TaskId) (c : ℕ) (x : TaskId) (f : Model) 
   stands : w .end ≡ still → Stands f c x
   most : w .end ≡ still → w .turns + ahead f c x ≤ bound n k (w .steals)
   by : w .end ≡ chosen → w .turns ≤ bound n k (w .steals) + 1
-  before : w .steals ≡ 0 → w .end ≡ still → w .turns ≤ k
   exact : w .steals ≡ 0 → w .end ≡ chosen → w .turns ≡ k + 1
-  order : w .steals ≡ 0 → w .end ≡ chosen → w .others ≡ take k q
+  order : w .steals ≡ 0 → w .others ≡ take (min (w .turns) k) q
 
 still-chosen : still ≡ chosen → ⊥
 still-chosen e = let z : _≡_ {A = ℕ} 0 1 = cc in omega arith
@@ -47,6 +46,9 @@ stolen-still e = let z : _≡_ {A = ℕ} 0 1 = cc in omega arith
 stolen-chosen : stolen ≡ chosen → ⊥
 stolen-chosen e = let z : _≡_ {A = ℕ} 0 1 = cc in omega arith
 
+nobody-yet : (k : ℕ) (q : List TaskId) → [] ≡ take (min 0 k) q
+nobody-yet k q = let z : 0 ≡ min 0 k = omega arith in ap (λ i. take i q) z
+
 module _ (c : ℕ) (x : TaskId) (hc : c < CPUS) where
   -- no calls, and a call that steals the task
   at-rest : (m : Model) → Stands m c x → Watched (m .n) (ahead m c x) (queueOf m c) c x m (ended 0 still)
@@ -55,9 +57,8 @@ module _ (c : ℕ) (x : TaskId) (hc : c < CPUS) where
         stands = λ _. st;
         most = λ _. omega arith;
         by = λ e. absurd (still-chosen e);
-        before = λ _ _. omega arith;
         exact = λ _ e. absurd (still-chosen e);
-        order = λ _ e. absurd (still-chosen e);
+        order = λ _. nobody-yet (ahead m c x) (queueOf m c);
       }
 
   is-stolen : (m f : Model) → Watched (m .n) (ahead m c x) (queueOf m c) c x f (ended 0 stolen)
@@ -66,9 +67,8 @@ module _ (c : ℕ) (x : TaskId) (hc : c < CPUS) where
         stands = λ e. absurd (stolen-still e);
         most = λ e. absurd (stolen-still e);
         by = λ e. absurd (stolen-chosen e);
-        before = λ _ e. absurd (stolen-still e);
         exact = λ _ e. absurd (stolen-chosen e);
-        order = λ _ e. absurd (stolen-chosen e);
+        order = λ _. nobody-yet (ahead m c x) (queueOf m c);
       }
 
   module _ (m f : Model) (e : Event) (loot : Option TaskId) (r : List TaskId) (mv : Move (queueOf m c) r e loot) where
@@ -97,9 +97,8 @@ module _ (c : ℕ) (x : TaskId) (hc : c < CPUS) where
           stands = λ g. absurd (still-chosen (sym g));
           most = λ g. absurd (still-chosen (sym g));
           by = λ _. omega arith;
-          before = λ _ g. absurd (still-chosen (sym g));
           exact = λ _ _. refl;
-          order = λ _ _. refl;
+          order = λ _. refl;
         })
 
   -- a call that it waits through, and what comes after that
@@ -110,11 +109,12 @@ module _ (c : ℕ) (x : TaskId) (hc : c < CPUS) where
         stands = v .stands;
         most = λ g. omega (arith, more, v .most g, p .most);
         by = λ g. omega (arith, more, v .by g, p .most);
-        before = λ s g. let a = none-lost (isThere loot) (w .steals) s in omega (arith, v .before (a .1) g, p .exact (a .0));
         exact = λ s g. let a = none-lost (isThere loot) (w .steals) s in omega (arith, v .exact (a .1) g, p .exact (a .0));
-        order = λ s g.
+        order = λ s.
             let a = none-lost (isThere loot) (w .steals) s in
-            ap (λ l. e .chosen ++ l) (v .order (a .1) g) ∙ p .order (a .0) (firstAt (sameId x) r) (omega arith) ∙ ap (λ i. take i (queueOf m c)) (p .exact (a .0));
+            let k = firstAt (sameId x) r in
+            let more : one-if (e .turn) + min (w .turns) k ≡ min (one-if (e .turn) + w .turns) (ahead m c x) = omega (arith, p .exact (a .0)) in
+            ap (λ l. e .chosen ++ l) (v .order (a .1)) ∙ p .order (a .0) (min (w .turns) k) (omega arith) ∙ ap (λ i. take i (queueOf m c)) more;
       }
     where
       none-lost : (b : Bool) (s : ℕ) → one-if b + s ≡ 0 → (b ≡ false) × (s ≡ 0)
@@ -159,7 +159,7 @@ fair m c x s wt ks =
       comes = λ ns more. ends (w .end) refl ns (λ e. let most = h .most e in omega arith);
       exact = h .exact;
       in-order = h .order;
-      once = λ z e i. subst (λ l. occ i l ≤ 1) (sym (h .order z e)) (once-taken m v c hc (ahead m c x) i);
+      once = λ z i. subst (λ l. occ i l ≤ 1) (sym (h .order z)) (once-taken m v c hc (min (w .turns) (ahead m c x)) i);
     }
   where
     ends : (z : End) → watch m c x ks .end ≡ z → (watch m c x ks .end ≡ stolen → ⊥) → (watch m c x ks .end ≡ still → ⊥) → watch m c x ks .end ≡ chosen

@@ -8,12 +8,11 @@ use native.Mathlib.Nat.{zero-add}
 use native.Mathlib.Omega.{arith}
 use lib.ListN.{length, take, length-append}
 use lib.Seq.{take-append-le}
-use Rattle.lists.specs.Search.{firstAt, anyOf}
+use Rattle.lists.specs.Search.{firstAt, anyOf, one-if}
 use Rattle.lists.specs.Entries.{isThere, taken}
 use Rattle.lists.proofs.Basics.{not-both}
 use Rattle.lists.proofs.SearchLaws.{first-pass}
 use Rattle.ids.specs.declared.TaskId.{TaskId}
-use Rattle.model.specs.Sound.{one-if}
 use Rattle.fair.specs.Fair.{Event}
 use Rattle.fair.proofs.Places.{first-joined, pushed-back}
 use Rattle.fair.proofs.Moves.{Move, joins, turns, robs}

@@ -40,6 +40,11 @@ pub idle-counts : fair.watch (at 4 (start ∷ admit 0 ∷ switch 0 yield ∷ adm
 unfolding left fair.watch step startStep claimed admitStep admitted freeSlot firstAt countOf anyOf tab switchStep switchOn pulls turn leaves chooses enters parks
 idle-counts = refl
 
+-- a turn earlier it waits still, and those two were chosen
+pub waits-still : fair.watch (at 4 (start ∷ admit 0 ∷ switch 0 yield ∷ admit 0 ∷ admit 0 ∷ [])) 0 (id 3) (switch 0 preempt ∷ switch 0 yield ∷ []) ≡ seen 2 0 (id 0 ∷ id 2 ∷ []) fair.still
+unfolding left fair.watch step startStep claimed admitStep admitted freeSlot firstAt countOf anyOf tab switchStep switchOn pulls turn leaves chooses enters parks
+waits-still = refl
+
 -- a yield by idle is a turn
 pub idle-turns : fair.watch (at 4 (start ∷ admit 0 ∷ admit 0 ∷ [])) 0 (id 2) (switch 0 yield ∷ switch 0 exit ∷ []) ≡ seen 2 0 (id 1 ∷ []) fair.chosen
 unfolding left fair.watch step startStep claimed admitStep admitted freeSlot firstAt countOf anyOf tab switchStep switchOn pulls turn leaves chooses enters parks

@@ -4,7 +4,7 @@ use mathlib.Core.Bool.{true}
 use mathlib.Core.List.{List, [], _∷_}
 use mathlib.Core.Logic.{_⊎_}
 use mathlib.Core.Option.{none}
-use Prim.Native.Nat.{ℕ, _+_, _≤_, _<_}
+use Prim.Native.Nat.{ℕ, _+_, _≤_, _<_, min}
 use lib.ListN.{take}
 use Rattle.ids.specs.declared.TaskId.{TaskId}
 use Rattle.answers.specs.Reply.{switched}
@@ -25,10 +25,10 @@ pub record Fair (m : Model) (c : ℕ) (x : TaskId) (ks : List Call) : Type 0 whe
   pub comes : (watch m c x ks .end ≡ stolen → ⊥) → bound (m .n) (ahead m c x) (watch m c x ks .steals) < watch m c x ks .turns → watch m c x ks .end ≡ chosen
   -- with m = 0 at exactly turn k + 1 ..
   pub exact : watch m c x ks .steals ≡ 0 → watch m c x ks .end ≡ chosen → watch m c x ks .turns ≡ ahead m c x + 1
-  -- .. after those that were ahead, in order ..
-  pub in-order : watch m c x ks .steals ≡ 0 → watch m c x ks .end ≡ chosen → watch m c x ks .others ≡ take (ahead m c x) (queueOf m c)
-  -- .. and nobody is chosen twice there before it
-  pub once : watch m c x ks .steals ≡ 0 → watch m c x ks .end ≡ chosen → (i : ℕ) → occ i (watch m c x ks .others) ≤ 1
+  -- .. and before it, also while it waits still, those who stood ahead, in order, one at each turn ..
+  pub in-order : watch m c x ks .steals ≡ 0 → watch m c x ks .others ≡ take (min (watch m c x ks .turns) (ahead m c x)) (queueOf m c)
+  -- .. so nobody is chosen twice there before it
+  pub once : watch m c x ks .steals ≡ 0 → (i : ℕ) → occ i (watch m c x ks .others) ≤ 1
 
 -- a call stole X for CPU t: X is first in the queue there at the moment of the steal, and after the call, or that call, a
 -- yield, has chosen it there

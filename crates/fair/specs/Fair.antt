@@ -6,13 +6,13 @@ use mathlib.Core.Option.{Option, some, none}
 use Prim.Native.Nat.{ℕ, _+_, _-_, _*_}
 use lib.ListN.{getD}
 use lib.Dec.{eqb}
-use Rattle.lists.specs.Search.{firstAt, anyOf}
+use Rattle.lists.specs.Search.{firstAt, anyOf, one-if}
 use Rattle.lists.specs.Entries.{isThere, taken}
 use Rattle.ids.specs.declared.TaskId.{TaskId}
 use Rattle.ids.specs.Id.{sameId, idle}
 use Rattle.answers.specs.Reply.{Reply, refused, done, told, number, named, value, stays, switched, isRefused}
 use Rattle.model.specs.Model.{Model, queueOf, known}
-use Rattle.model.specs.Sound.{one-if, readyOn}
+use Rattle.model.specs.Sound.{readyOn}
 use Rattle.model.specs.Switch.{isYield, isNil, idles, peerOf, lootAt, canSteal}
 use Rattle.model.specs.Calls.{Call, start, start1, admit, switch, mark, steal, wake, collect, read, step}
 

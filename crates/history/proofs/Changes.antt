@@ -11,14 +11,14 @@ use lib.ListN.{length, getD, set, length-set}
 use lib.Seq.{getD-set-same, getD-set-other}
 use lib.Dec.{eqb, ltb}
 use borrow.Author.Tests.{eq-eqb, ne-eqb, eqb-true, ltb-true}
-use Rattle.lists.specs.Search.{countOf}
+use Rattle.lists.specs.Search.{countOf, one-if}
 use Rattle.lists.specs.Entries.{isThere}
 use Rattle.lists.proofs.Basics.{both-true, getD-all}
 use Rattle.ids.specs.declared.TaskId.{TaskId}
 use Rattle.answers.specs.Reply.{Reply, refused, done, named, stays, switched}
 use Rattle.answers.specs.Contract.{Step, refusing}
 use Rattle.model.specs.Model.{Model, EMPTY, READY, RUNNING, BLOCKED, CPUS, stateOf, epochOf, queueOf, currentOf, idleOf, known, isIdle, started, startedOn, occupied, freeSlot, tenant, withState, bump, capped}
-use Rattle.model.specs.Sound.{one-if, Shape, Live, Sound}
+use Rattle.model.specs.Sound.{Shape, Live, Sound}
 use Rattle.model.specs.Steps.{whenStarted, claimed, startStep, startCpuStep, admitted, admitStep, markStep, woken, wakeStep, collectStep}
 use Rattle.model.specs.Switch.{Kind, yield, preempt, block, exit, isYield, isNil, idles, canSteal, stolen, stealing, tryStealStep, displaced, pulls, turn, switchOn, switchStep}
 use Rattle.model.specs.Calls.{Call, start, start1, admit, switch, mark, steal, wake, collect, read, step}

@@ -6,12 +6,14 @@ use Prim.Native.Nat.{ℕ}
 use Rattle.lists.specs.Tab.{tab}
 use Rattle.lists.specs.Search.{firstAt, countOf, anyOf}
 use Rattle.ids.specs.declared.TaskId.{TaskId}
-use Rattle.answers.specs.Run.{left}
+use Rattle.answers.specs.Run.{left, times}
 use Rattle.model.specs.Model.{fresh, freeSlot, known, occupied, withEpoch}
+use Rattle.model.specs.Sound.{Sound}
 use Rattle.model.specs.Steps.{claimed, startStep, startCpuStep, admitted, admitStep, woken, wakeStep, collectStep}
 use Rattle.model.specs.Switch.{yield, block, exit, lootAt, canSteal, stealing, leaves, enters, parks, chooses, turn, pulls, switchOn, switchStep}
 use Rattle.model.specs.Calls.{Call, start, start1, admit, switch, wake, collect, step}
-use Rattle.history.specs.History.{times, highest, arrivals, departures, exitsOf, blocks, displacements}
+use Rattle.model.proofs.SoundRows.{begun, last-epoch}
+use Rattle.history.specs.History.{highest, arrivals, departures, exitsOf, blocks, displacements}
 
 abbrev id : ℕ → ℕ → TaskId
 id s e = record { slot = s; epoch = e }
@@ -48,7 +50,7 @@ pub visited : (exitsOf 1 (fresh 2) (start ∷ visit ++ visit) ≡ 2) × (known (
 unfolding left times step startStep claimed admitStep admitted freeSlot firstAt countOf tab switchStep switchOn pulls turn leaves chooses enters parks collectStep
 visited = (refl, refl, refl)
 
--- a slot at its last epoch: after one exit more an id of epoch 0 is known
-pub revived : known (left step (withEpoch (fresh 2) 1 65535) (start ∷ visit)) (id 1 0) ≡ true
+-- a sound table with a slot at its last epoch: after one exit more an id of epoch 0 is known
+pub revived : Sound (withEpoch begun 1 65535) × (known (left step (withEpoch begun 1 65535) visit) (id 1 0) ≡ true)
 unfolding left step startStep claimed admitStep admitted freeSlot firstAt countOf tab switchStep switchOn pulls turn leaves chooses enters parks collectStep
-revived = refl
+revived = (last-epoch, refl)

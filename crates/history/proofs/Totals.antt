@@ -6,20 +6,21 @@ use mathlib.Core.List.{List, [], _∷_}
 use Prim.Native.Nat.{ℕ, _+_, _%_, _≤_, _<_, min, max}
 use native.Mathlib.Nat.{mod-add-mod}
 use native.Mathlib.Omega.{arith}
+use Rattle.lists.specs.Search.{one-if}
 use Rattle.lists.proofs.Basics.{getD-all, not-so}
 use Rattle.ids.specs.declared.TaskId.{TaskId}
 use Rattle.ids.specs.Id.{EPOCHS}
 use Rattle.answers.specs.Reply.{Reply}
-use Rattle.answers.specs.Run.{left}
+use Rattle.answers.specs.Run.{left, times}
 use Rattle.model.specs.Model.{Model, MOST, TOP, capped, bump, epochOf, known, occupied, fresh}
-use Rattle.model.specs.Sound.{one-if, Known, Live, Sound}
+use Rattle.model.specs.Sound.{Known, Live, Sound}
 use Rattle.model.specs.Calls.{Call, step}
 use Rattle.model.proofs.Counting.{occupied-fresh}
 use Rattle.model.proofs.Facts.{known-is, known-true}
 use Rattle.model.proofs.Claims.{fresh-sound}
 use Rattle.model.proofs.Keeps.{step-sound}
 use Rattle.model.proofs.Sizes.{step-size}
-use Rattle.history.specs.History.{exitOf, blocking, displacing, times, highest, arrivals, departures, exitsOf, blocks, displacements}
+use Rattle.history.specs.History.{exitOf, blocking, displacing, highest, arrivals, departures, exitsOf, blocks, displacements}
 use Rattle.history.proofs.Changes.{changes}
 
 -- CONSERVATION
@@ -76,12 +77,12 @@ module _ (f : Model → ℕ) (did : Model → Call → Reply → Bool) (one : (m
   capped-by true v t h = (omega arith, omega arith)
   capped-by false v t h = (omega arith, omega arith)
 
-  counted : (m : Model) (ks : List Call) → Sound m → f m ≤ TOP → f (left step m ks) ≡ min (f m + times did m ks) TOP
+  counted : (m : Model) (ks : List Call) → Sound m → f m ≤ TOP → f (left step m ks) ≡ min (f m + times step did m ks) TOP
   unfolding left times
   counted m [] s h = omega arith
   counted m (k ∷ ks) s h =
       let w = step m k .after in
-      let (fits, sum) = capped-by (did m k (step m k .reply)) (f m) (times did w ks) h in
+      let (fits, sum) = capped-by (did m k (step m k .reply)) (f m) (times step did w ks) h in
       counted w ks (step-sound m k s) (rw (one m k s) fits) ∙ rw (one m k s) sum
 
 -- blocks that happened

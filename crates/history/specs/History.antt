@@ -1,14 +1,15 @@
--- What happened to a task table, told from the calls, their answers, and, for the first start of a CPU, the table at the call.
+-- What happened to a task table, told from the calls, their answers, and the table at each call: for the first start of a CPU, and
+-- for the most slots that were occupied at once.
 use mathlib.Core.Bool.{Bool, true, false, _&&_, not}
 use mathlib.Core.List.{List, [], _∷_}
 use mathlib.Core.Option.{Option, some, none}
-use Prim.Native.Nat.{ℕ, _+_, max}
+use Prim.Native.Nat.{ℕ, max}
 use lib.Dec.{eqb}
 use Rattle.lists.specs.Entries.{isThere, taken}
 use Rattle.ids.specs.declared.TaskId.{TaskId}
 use Rattle.answers.specs.Reply.{Reply, refused, done, told, number, named, value, stays, switched, isRefused}
+use Rattle.answers.specs.Run.{times}
 use Rattle.model.specs.Model.{Model, startedOn, occupied}
-use Rattle.model.specs.Sound.{one-if}
 use Rattle.model.specs.Switch.{Kind, yield, preempt, block, exit}
 use Rattle.model.specs.Calls.{Call, start, start1, admit, switch, mark, steal, wake, collect, read, step}
 
@@ -94,27 +95,22 @@ displacing k r = taken isExit (kindIn k) && taken (λ (w : Switched). isThere (w
 
 -- OVER A RUN
 
--- how many calls of a run did it
-unfoldable pub times : (Model → Call → Reply → Bool) → Model → List Call → ℕ
-times did m [] = 0
-times did m (k ∷ ks) = one-if (did m k (step m k .reply)) + times did (step m k .after) ks
-
 -- the most slots that were occupied at once
 unfoldable pub highest : Model → List Call → ℕ
 highest m [] = occupied m
 highest m (k ∷ ks) = max (occupied m) (highest (step m k .after) ks)
 
 abbrev pub arrivals : Model → List Call → ℕ
-arrivals = times arrival
+arrivals = times step arrival
 
 abbrev pub departures : Model → List Call → ℕ
-departures = times (λ m k r. departure k r)
+departures = times step (λ m k r. departure k r)
 
 abbrev pub exitsOf : ℕ → Model → List Call → ℕ
-exitsOf s = times (λ m k r. exitOf s k r)
+exitsOf s = times step (λ m k r. exitOf s k r)
 
 abbrev pub blocks : Model → List Call → ℕ
-blocks = times (λ m k r. blocking k r)
+blocks = times step (λ m k r. blocking k r)
 
 abbrev pub displacements : Model → List Call → ℕ
-displacements = times (λ m k r. displacing k r)
+displacements = times step (λ m k r. displacing k r)

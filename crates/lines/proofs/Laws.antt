@@ -1,13 +1,15 @@
 -- Laws on lines: which word a word is, what was read of the fields, and how many words there are.
-use mathlib.Core.Path.{_≡_, refl, sym, _∙_}
+use mathlib.Core.Path.{_≡_, refl, sym, ap, _∙_}
 use mathlib.Core.Bool.{Bool, true, false}
 use mathlib.Core.List.{List, [], _∷_}
 use mathlib.Core.Option.{Option, none, some}
-use Prim.Native.Nat.{ℕ, _+_, _≤_, _<_}
+use Prim.Native.Nat.{ℕ, _+_, _-_, _≤_, _<_}
 use Prim.Native.String.{String}
-use native.Mathlib.Nat.{not-suc-le-zero}
+use native.Mathlib.Nat.{not-suc-le-zero, zero-add}
+use native.Mathlib.Omega.{arith}
 use borrow.Author.Tests.{lt-ltb, le-ltb}
-use lib.ListN.{length, take, drop}
+use lib.ListN.{length, take, drop, length-drop}
+use lib.Seq.{drop-drop}
 use Rattle.lists.specs.Each.{Each}
 use Rattle.text.specs.Text.{SPACE, bytes, same, split, upTo}
 use Rattle.text.proofs.ReadLaws.{same-is, split-one, split-cons, split-some}
@@ -88,3 +90,39 @@ module _ (l : List ℕ) (a : ℕ) (short : length l ≤ LONGEST) (ea : a ≡ upT
       words-more h =
           sym (rw (le-ltb _ _ short, split-cons SPACE a l ea v m la ev em, split-cons SPACE b m eb w n lb ew en, split-cons SPACE c n ec _ _ h refl refl)
           (many _ _ _ (split SPACE (drop (c + 1) n)) (split-some SPACE (drop (c + 1) n))))
+
+-- THE SAME BY INDEXES: the spaces stand at a, j and k of the line
+
+module _ (l : List ℕ) (a : ℕ) (short : length l ≤ LONGEST) (ea : a ≡ 0 + upTo SPACE l) where
+  first-is : a ≡ upTo SPACE l
+  first-is = ea ∙ zero-add (upTo SPACE l)
+
+  pub one-by : length l ≤ a → readLine l ≡ oneWord l
+  one-by h = words-one l a short first-is h
+
+  module _ (j : ℕ) (la : a < length l) (ej : j ≡ a + 1 + upTo SPACE (drop (a + 1) l)) where
+    pub two-by : (v m : List ℕ) → v ≡ take a l → m ≡ drop (a + 1) l → length l ≤ j → readLine l ≡ twoWords v m
+    two-by v m ev em h =
+        words-two l a short first-is v m (upTo SPACE m) la ev em refl (omega (arith, ap length em, length-drop (a + 1) l, ej, ap (upTo SPACE) em))
+
+    module _ (k : ℕ) (lj : j < length l) (ek : k ≡ j + 1 + upTo SPACE (drop (j + 1) l)) where
+      behind : drop (j + 1) l ≡ drop (upTo SPACE (drop (a + 1) l) + 1) (drop (a + 1) l)
+      behind =
+          let e : j + 1 ≡ a + 1 + (upTo SPACE (drop (a + 1) l) + 1) = omega (arith, ej) in
+          ap (λ t. drop t l) e ∙ sym (drop-drop (upTo SPACE (drop (a + 1) l) + 1) (a + 1) l)
+
+      inside : upTo SPACE (drop (a + 1) l) < length (drop (a + 1) l)
+      inside = omega (arith, ej, length-drop (a + 1) l)
+
+      pub three-by : (v w n : List ℕ) → v ≡ take a l → w ≡ take (j - (a + 1)) (drop (a + 1) l) → n ≡ drop (j + 1) l → length l ≤ k → readLine l ≡ threeWords v w n
+      three-by v w n ev ew en h =
+          let t : j - (a + 1) ≡ upTo SPACE (drop (a + 1) l) = omega (arith, ej) in
+          words-three l a short first-is v (drop (a + 1) l) (upTo SPACE (drop (a + 1) l)) la ev refl refl
+          w n (upTo SPACE n) inside (ew ∙ ap (λ x. take x (drop (a + 1) l)) t) (en ∙ behind) refl
+          (omega (arith, ap length en, length-drop (j + 1) l, ek, ap (upTo SPACE) en))
+
+      pub more-by : k < length l → unreadable ≡ readLine l
+      more-by h =
+          words-more l a short first-is (take a l) (drop (a + 1) l) (upTo SPACE (drop (a + 1) l)) la refl refl refl
+          (take (upTo SPACE (drop (a + 1) l)) (drop (a + 1) l)) (drop (j + 1) l) (upTo SPACE (drop (j + 1) l)) inside refl behind refl
+          (omega (arith, length-drop (j + 1) l, ek))

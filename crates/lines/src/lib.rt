@@ -65,29 +65,29 @@ pub enum Line {
     Unreadable,
 }
 
-// What a line, without its line feed, asks for.
+// What a line, without its line feed, asks for. Spaces are found by their index in the line, which is quicker than in what is
+// left of it.
 pub fn read(line: &[u8]) -> Line
     ensures { λ r. ⌜ lineOf r ≡ readLine (now (line .entry)) ⌝ }
 {
     if LONGEST < line.len() {
         return Line::Unreadable;
     }
-    let a = words::until(line, b' ');
+    let a = words::until_from(line, 0, b' ');
     if line.len() <= a {
         return one_word(line);
     }
-    let first = words::head(line, a);
-    let after = words::rest(line, a);
-    let b = words::until(after, b' ');
-    if after.len() <= b {
-        return two_words(first, after);
+    let b = words::until_from(line, a + 1, b' ');
+    if line.len() <= b {
+        return two_words(words::head(line, a), words::rest(line, a));
     }
-    let second = words::head(after, b);
-    let third = words::rest(after, b);
-    let c = words::until(third, b' ');
-    if c < third.len() {
+    let c = words::until_from(line, b + 1, b' ');
+    if c < line.len() {
         return Line::Unreadable;
     }
+    let first = words::head(line, a);
+    let second = words::part(line, a + 1, b);
+    let third = words::rest(line, b);
     three_words(first, second, third)
 }
 

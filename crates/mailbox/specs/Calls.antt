@@ -51,9 +51,9 @@ taskReads o =
 
 abbrev pub waitCalls : Operands → List (Option wait.Call)
 waitCalls o =
-    some (wait.arm (o .word) (o .id))
+    some (wait.arm (o .cookie .0) (o .id))
     ∷ some (wait.disarm (o .id))
-    ∷ some (wait.signal (o .word))
+    ∷ some (wait.signal (o .cookie .0))
     ∷ some (wait.take (o .id))
     ∷ some (wait.pending (o .id))
     ∷ []
@@ -63,7 +63,7 @@ abbrev pub deadlineCalls : Operands → List ℕ → List (Option deadline.Call)
 deadlineCalls o out = some (deadline.arm (o .id) (o .time)) ∷ some (deadline.disarm (o .id)) ∷ some (deadline.poll (o .time) out) ∷ []
 
 abbrev pub wakeCalls : Operands → List (Option token.Call)
-wakeCalls o = some (token.push (o .word)) ∷ some token.pop ∷ some token.drops ∷ some token.empty ∷ []
+wakeCalls o = some (token.push (o .token .0)) ∷ some token.pop ∷ some token.drops ∷ some token.empty ∷ []
 
 unfoldable pub callNamed : Operands → List ℕ → Option Call
 callNamed o out =

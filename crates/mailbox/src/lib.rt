@@ -21,14 +21,16 @@ use abi_leaves::wakes;
 use abi_leaves::wakes::WakesAnswer;
 use answers::Refusal;
 use ids::TaskId;
+use ids::Token;
+use irqwait::Cookie;
 use irqwait::WaitTable;
 use memory::Tasks;
 use numbers::Answer;
 use parktime::Table;
 use wake::WakeQueue;
 
-// The numbers of a call. What a call does not ask for counts for nothing. `cpu` is also a thief, `word` a cookie or a token, `time`
-// a deadline or the time of a poll.
+// The numbers of a call. What a call does not ask for counts for nothing. `cpu` is also a thief, `time` a deadline or the time of
+// a poll.
 #[repr(C)]
 pub struct Operands {
     pub call: u8,
@@ -36,7 +38,8 @@ pub struct Operands {
     pub kind: u8,
     pub mark: bool,
     pub id: TaskId,
-    pub word: u32,
+    pub cookie: Cookie,
+    pub token: Token,
     pub slot: usize,
     pub time: u64,
 }
@@ -104,9 +107,9 @@ fn on_waits(w: WaitTable, o: Operands, call: u8) -> WaitsAnswer
     ensures { λ r. ⌜ Crossed (r .answer) (λ got. PostsOn waits wait.step w (r .table) got (getD (waitCalls o) call none)) ⌝ }
 {
     match call {
-        0 => waits::bredumalt_irqwait_arm(w, o.word, o.id),
+        0 => waits::bredumalt_irqwait_arm(w, o.cookie, o.id),
         1 => waits::bredumalt_irqwait_disarm_task(w, o.id),
-        2 => waits::bredumalt_irqwait_signal(w, o.word),
+        2 => waits::bredumalt_irqwait_signal(w, o.cookie),
         3 => waits::bredumalt_irqwait_take_pending(w, o.id),
         4 => WaitsAnswer {
             table: w,
@@ -123,7 +126,7 @@ fn on_wakes(q: WakeQueue, o: Operands, call: u8) -> WakesAnswer
     ensures { λ r. ⌜ Crossed (r .answer) (λ got. PostsOn wakes token.step q (r .queue) got (getD (wakeCalls o) call none)) ⌝ }
 {
     match call {
-        0 => wakes::bredumalt_wake_push(q, o.word),
+        0 => wakes::bredumalt_wake_push(q, o.token),
         1 => wakes::bredumalt_wake_pop(q),
         2 => WakesAnswer {
             queue: q,

@@ -50,7 +50,7 @@ pub record RingIs (t : Tasks) (c : ℕ) : Type 0 where
   pub head : headOf t c < t .n
   pub len : lenOf t c ≤ t .n
 
--- what the view can't see: N listed, the sizes of the arrays, where the rings start
+-- what the view rests on: N listed, the sizes of the arrays, where the rings start
 pub record Rep (t : Tasks) : Type 0 where
   pub some : 1 ≤ t .n
   pub most : t .n ≤ MOST

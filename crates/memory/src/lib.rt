@@ -14,6 +14,17 @@ use answers::Refusal;
 use answers::Told;
 use ids::TaskId;
 
+pub const CPUS: usize = 2;
+
+// The states of a slot.
+pub const EMPTY: u8 = 0;
+
+pub const READY: u8 = 1;
+
+pub const RUNNING: u8 = 2;
+
+pub const BLOCKED: u8 = 3;
+
 // Of the 64 places for slots only the first n count. The ring of CPU c stands at c * 64, in two arrays: the slots of the ids
 // and their epochs.
 #[repr(C)]

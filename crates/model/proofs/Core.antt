@@ -6,11 +6,12 @@ use Prim.Native.Nat.{ℕ, _≤_, _<_}
 use native.Mathlib.Omega.{arith}
 use lib.Dec.{eqb}
 use borrow.Author.Tests.{ne-eqb}
+use Rattle.lists.specs.Search.{one-if}
 use Rattle.lists.specs.Entries.{Holds}
 use Rattle.ids.specs.declared.TaskId.{TaskId}
 use Rattle.ids.specs.Id.{EPOCHS, sameId, idle}
 use Rattle.model.specs.Model.{Model, Cpu, CPUS, STATES, EMPTY, RUNNING, stateOf, epochOf, homeOf, markOf, cpuOf, queueOf, currentOf, idleOf, startedOn, occupied}
-use Rattle.model.specs.Sound.{one-if, occ, readyOn, Shape, Known, AllKnown, Active, SlotOk, OnOk, OffOk, CpuOk, ParkedOk, Live}
+use Rattle.model.specs.Sound.{occ, readyOn, Shape, Known, AllKnown, Active, SlotOk, OnOk, OffOk, CpuOk, ParkedOk, Live}
 
 -- a CPU is started, in a table that is
 abbrev pub litBy : ℕ → Cpu → Bool

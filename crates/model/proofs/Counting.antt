@@ -9,12 +9,12 @@ use lib.ListN.{length, getD, set, replicate, List·getD-map}
 use lib.Seq.{map-set-same}
 use lib.Dec.{eqb}
 use borrow.Author.Tests.{eq-eqb, ne-eqb, eqb-true}
-use Rattle.lists.specs.Search.{countOf}
+use Rattle.lists.specs.Search.{countOf, one-if}
 use Rattle.lists.proofs.Basics.{both-true}
 use Rattle.lists.proofs.SearchLaws.{count-most}
 use Rattle.ids.specs.declared.TaskId.{TaskId}
 use Rattle.model.specs.Model.{Model, CPUS, EMPTY, READY, stateOf, epochOf, homeOf, queueOf, currentOf, startedOn, occupied, withState, fresh}
-use Rattle.model.specs.Sound.{one-if, occ, Known, AllKnown, readyOn, Shape, Live}
+use Rattle.model.specs.Sound.{occ, Known, AllKnown, readyOn, Shape, Live}
 
 -- what is the same of the new value at a place as of the old is the same everywhere
 pub getD-set-kept : {A B : Type 0} (f : A → B) (l : List A) (i : ℕ) (y d : A) → f y ≡ f (getD l i d) → (j : ℕ) → f (getD (set l i y) j d) ≡ f (getD l j d)

@@ -11,11 +11,11 @@ use lib.ListN.{length, getD, set, length-set}
 use lib.Seq.{getD-set-same, getD-set-other}
 use lib.Dec.{eqb}
 use borrow.Author.Tests.{ne-eqb}
-use Rattle.lists.specs.Search.{countOf}
+use Rattle.lists.specs.Search.{countOf, one-if}
 use Rattle.lists.specs.Entries.{Holds}
 use Rattle.ids.specs.declared.TaskId.{TaskId}
 use Rattle.model.specs.Model.{Model, CPUS, EMPTY, stateOf, epochOf, queueOf, currentOf, idleOf, restTo, noted}
-use Rattle.model.specs.Sound.{one-if, Shape, Active, ParkedOk}
+use Rattle.model.specs.Sound.{Shape, Active, ParkedOk}
 use Rattle.lists.proofs.SearchLaws.{count-most}
 use Rattle.model.proofs.Counting.{one-if-most, known-as, known-kept, count-set}
 use Rattle.model.proofs.Core.{lit, lit-by, Core, Awake, Ends, runs-by, rests-by, off-by}

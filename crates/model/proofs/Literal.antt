@@ -10,12 +10,13 @@ use native.Mathlib.Decide.{ℕ-discrete}
 use lib.ListN.{length, getD}
 use lib.Dec.{eqb}
 use borrow.Author.Tests.{eq-eqb, ne-eqb, eqb-true}
+use Rattle.lists.specs.Search.{one-if}
 use Rattle.lists.specs.Entries.{Holds}
 use Rattle.lists.proofs.Basics.{not-both, both-true}
 use Rattle.ids.specs.declared.TaskId.{TaskId}
 use Rattle.ids.specs.Id.{EPOCHS, idle}
 use Rattle.model.specs.Model.{Model, CPUS, STATES, EMPTY, READY, RUNNING, stateOf, epochOf, homeOf, markOf, queueOf, currentOf, idleOf, startedOn, occupied}
-use Rattle.model.specs.Sound.{one-if, occ, readyOn, Known, AllKnown, SlotOk, OnOk, OffOk, ParkedOk, Live}
+use Rattle.model.specs.Sound.{occ, readyOn, Known, AllKnown, SlotOk, OnOk, OffOk, ParkedOk, Live}
 use Rattle.model.proofs.Counting.{one-if-most, ready-there, known-nil, known-cons}
 use Rattle.model.proofs.Facts.{known-one, entry-known, idle-apart}
 

@@ -6,10 +6,11 @@ use native.Mathlib.Omega.{arith}
 use lib.ListN.{length, getD, take, drop, length-append, length-drop, List·getD-append}
 use lib.Seq.{split-at, getD-append-add, getD-take, getD-drop, length-take-le}
 use lib.Dec.{eqb}
+use Rattle.lists.specs.Search.{one-if}
 use Rattle.ids.specs.declared.TaskId.{TaskId}
 use Rattle.ids.specs.Id.{idle}
 use Rattle.model.specs.Model.{Model}
-use Rattle.model.specs.Sound.{one-if, occ, Known, AllKnown}
+use Rattle.model.specs.Sound.{occ, Known, AllKnown}
 use Rattle.model.specs.Switch.{robbed}
 use Rattle.model.proofs.Counting.{occ-cons, occ-append, known-head, known-tail, known-append, known-left, known-right}
 

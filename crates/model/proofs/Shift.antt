@@ -9,10 +9,11 @@ use lib.ListN.{set, length-set}
 use lib.Seq.{getD-set-same, getD-set-other}
 use lib.Dec.{eqb}
 use borrow.Author.Tests.{ne-eqb}
+use Rattle.lists.specs.Search.{one-if}
 use Rattle.ids.specs.declared.TaskId.{TaskId}
 use Rattle.ids.specs.Id.{EPOCHS, idle}
 use Rattle.model.specs.Model.{Model, CPUS, STATES, EMPTY, READY, RUNNING, noCpu, stateOf, epochOf, homeOf, markOf, cpuOf, queueOf, currentOf, idleOf, slotsTo, setQueue, withQueue}
-use Rattle.model.specs.Sound.{one-if, occ, readyOn, Shape, AllKnown}
+use Rattle.model.specs.Sound.{occ, readyOn, Shape, AllKnown}
 use Rattle.model.proofs.Counting.{getD-set-kept, ready-here, ready-else, absent, known-as, known-kept}
 use Rattle.model.proofs.Core.{lit, lit-by, SlotCore, Runs, Rests, CpuCore, Core, runs-by, rests-by, off-by}
 

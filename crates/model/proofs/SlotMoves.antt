@@ -10,10 +10,11 @@ use lib.ListN.{set, length-set}
 use lib.Seq.{getD-set-same, getD-set-other, set-getD}
 use lib.Dec.{eqb}
 use borrow.Author.Tests.{eq-eqb, ne-eqb}
+use Rattle.lists.specs.Search.{one-if}
 use Rattle.ids.specs.declared.TaskId.{TaskId}
 use Rattle.ids.specs.Id.{EPOCHS, idle}
 use Rattle.model.specs.Model.{Model, CPUS, EMPTY, READY, RUNNING, BLOCKED, noCpu, stateOf, epochOf, homeOf, markOf, queueOf, currentOf, idleOf, tenant, slotsTo, withState, withEpoch, withHome, withMark, withQueue, pushed}
-use Rattle.model.specs.Sound.{one-if, occ, readyOn, Shape, AllKnown}
+use Rattle.model.specs.Sound.{occ, readyOn, Shape, AllKnown}
 use Rattle.model.proofs.Counting.{one-if-most, absent, ready-there, occ-snoc, known-as, known-kept, known-snoc}
 use Rattle.model.proofs.Core.{lit, SlotCore, CpuCore, Core, runs-by, rests-by, off-by}
 use Rattle.model.proofs.Shift.{shift-core}

@@ -9,14 +9,15 @@ use Rattle.lists.specs.Search.{countOf}
 use Rattle.lists.proofs.Basics.{not-both}
 use Rattle.ids.specs.declared.TaskId.{TaskId}
 use Rattle.answers.specs.Run.{left}
-use Rattle.model.specs.Model.{Model, CPUS, MOST, restTo, withMark, fresh}
+use Rattle.model.specs.Model.{Model, CPUS, MOST, restTo, withEpoch, withMark, fresh}
 use Rattle.model.specs.Steps.{startStep, claimed}
 use Rattle.model.specs.Switch.{yield, exit}
 use Rattle.model.specs.Calls.{Call, start, start1, admit, switch, mark, steal, step}
 use Rattle.model.specs.Sound.{Sound}
 use Rattle.model.proofs.Core.{live-core, live-ends, finish}
 use Rattle.model.proofs.Ends.{core-rest}
-use Rattle.model.proofs.Facts.{live, sound-live}
+use Rattle.model.proofs.SlotMoves.{Quiet, wipe-core}
+use Rattle.model.proofs.Facts.{live, sound-live, quiet-idle}
 use Rattle.model.proofs.Claims.{fresh-sound}
 use Rattle.model.proofs.Keeps.{calls-sound}
 
@@ -40,7 +41,7 @@ pub all-taken : Sound (left step (fresh 2) (start ∷ start1 ∷ []))
 all-taken = reached 2 (omega arith) (omega arith) (start ∷ start1 ∷ [])
 
 -- a table of two slots, started
-abbrev begun : Model
+abbrev pub begun : Model
 begun = left step (fresh 2) (start ∷ [])
 
 -- the peak is at least the occupied slots, and at most N
@@ -72,6 +73,20 @@ parked-wrap =
       low = v .low;
       high = v .high;
     }))
+
+-- a slot's epoch may be the last one, 65,535
+pub last-epoch : Sound (withEpoch begun 1 65535)
+unfolding left step startStep claimed countOf
+last-epoch =
+    let s = reached 2 (omega arith) (omega arith) (start ∷ []) in
+    let v = live begun s refl in
+    let k = live-core begun (s .shape) v in
+    let z = live-ends begun v in
+    let quiet : Quiet begun 1 = (λ e. omega arith, λ e. omega arith) in
+    let w = withEpoch begun 1 65535 in
+    sound-live w
+    (finish w (wipe-core begun CPUS k 1 65535 (omega arith) (omega arith) quiet (quiet-idle begun CPUS k (z .awake) 1 quiet))
+    (record { awake = record { idles = z .awake .idles }; parked = tt; low = v .low; high = v .high }))
 
 -- an idle is not marked
 pub idle-marked : Sound (withMark begun 0 true) → ⊥

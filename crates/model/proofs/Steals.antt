@@ -9,13 +9,13 @@ use lib.ListN.{length, getD, set}
 use lib.Seq.{getD-set-same, set-getD, set-set}
 use lib.Dec.{eqb, ltb}
 use borrow.Author.Tests.{eq-eqb, ltb-true, not-true}
-use Rattle.lists.specs.Search.{firstAt}
+use Rattle.lists.specs.Search.{firstAt, one-if}
 use Rattle.lists.proofs.Basics.{both-true, not-both}
 use Rattle.lists.proofs.SearchLaws.{first-is}
 use Rattle.ids.specs.declared.TaskId.{TaskId}
 use Rattle.ids.specs.Id.{idle}
 use Rattle.model.specs.Model.{Model, CPUS, EMPTY, READY, BLOCKED, noCpu, stateOf, markOf, cpuOf, queueOf, currentOf, idleOf, known, isIdle, setQueue, withState, withQueue}
-use Rattle.model.specs.Sound.{one-if, Known, AllKnown, Shape, Live, Sound}
+use Rattle.model.specs.Sound.{Known, AllKnown, Shape, Live, Sound}
 use Rattle.model.specs.Switch.{peerOf, stealeable, lootAt, robbed, stolen, isNil, canSteal, stealing, tryStealStep, idles, pulls}
 use Rattle.model.proofs.Counting.{getD-set-kept, ready-there}
 use Rattle.model.proofs.Robbed.{occ-robbed, known-robbed}

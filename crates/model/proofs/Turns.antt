@@ -9,12 +9,13 @@ use lib.ListN.{length, set, length-append}
 use lib.Seq.{getD-set-same, getD-set-other, set-getD, set-set}
 use lib.Dec.{eqb}
 use borrow.Author.Tests.{eq-eqb}
+use Rattle.lists.specs.Search.{one-if}
 use Rattle.lists.proofs.Basics.{not-both}
 use Rattle.ids.specs.declared.TaskId.{TaskId}
 use Rattle.ids.specs.Id.{sameId, idle}
 use Rattle.ids.proofs.IdLaws.{same-self}
 use Rattle.model.specs.Model.{Model, CPUS, EMPTY, READY, RUNNING, BLOCKED, noCpu, stateOf, epochOf, homeOf, cpuOf, queueOf, currentOf, idleOf, startedOn, setQueue, withState, withEpoch, withQueue, pushed, bump, capped}
-use Rattle.model.specs.Sound.{one-if, occ, Known, AllKnown, Active, OnOk, Shape, Live}
+use Rattle.model.specs.Sound.{occ, Known, AllKnown, Active, OnOk, Shape, Live}
 use Rattle.model.specs.Switch.{Kind, yield, preempt, block, exit, isYield, leaves, enters, idles}
 use Rattle.model.proofs.Counting.{getD-set-kept, occ-cons, known-head, known-tail, ready-there}
 use Rattle.model.proofs.Core.{lit, lit-is, lit-by, Core, Ends, live-core, live-ends}

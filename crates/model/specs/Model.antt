@@ -6,6 +6,7 @@ use mathlib.Core.Option.{Option, none}
 use Prim.Native.Nat.{ℕ, _+_, _-_, _%_, _^_, min, max}
 use lib.ListN.{getD, set, replicate}
 use lib.Dec.{eqb, ltb}
+use Rattle.answers.specs.Sizes as sizes
 use Rattle.lists.specs.Tab.{tab}
 use Rattle.lists.specs.Search.{firstAt, countOf, anyOf}
 use Rattle.lists.specs.Entries.{taken}
@@ -35,7 +36,7 @@ pub record Model : Type 0 where
 
 -- the largest table
 abbrev pub MOST : ℕ
-MOST = 64
+MOST = sizes.MOST
 
 abbrev pub CPUS : ℕ
 CPUS = 2

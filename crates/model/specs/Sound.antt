@@ -9,14 +9,11 @@ use mathlib.Core.Option.{some}
 use Prim.Native.Nat.{ℕ, _+_, _≤_, _<_}
 use lib.ListN.{length}
 use lib.Dec.{eqb}
+use Rattle.lists.specs.Search.{one-if}
 use Rattle.lists.specs.Entries.{Holds}
 use Rattle.ids.specs.declared.TaskId.{TaskId}
 use Rattle.ids.specs.Id.{EPOCHS, idle}
 use Rattle.model.specs.Model.{Model, MOST, CPUS, STATES, EMPTY, READY, RUNNING, stateOf, epochOf, homeOf, markOf, queueOf, currentOf, idleOf, startedOn, occupied, bump, fresh}
-
-abbrev pub one-if : Bool → ℕ
-one-if true = 1
-one-if false = 0
 
 -- how often slot i stands in a queue
 unfoldable pub occ : ℕ → List TaskId → ℕ

@@ -4,15 +4,16 @@ use mathlib.Core.Bool.{Bool, true, false, _&&_, not, cond}
 use mathlib.Core.Option.{some, none}
 use Prim.Native.Nat.{ℕ}
 use lib.ListN.{length}
-use lib.Dec.{eqb, ltb, leb}
+use lib.Dec.{eqb, ltb}
 use Rattle.ids.specs.declared.TaskId.{TaskId}
 use Rattle.answers.specs.Reply.{done, told, named}
 use Rattle.answers.specs.Contract.{Step, refusing}
-use Rattle.model.specs.Model.{Model, MOST, BLOCKED, READY, RUNNING, stateOf, homeOf, queueOf, idleOf, tenant, known, isIdle, started, startedOn, freeSlot, withState, withHome, withMark, withCpu, pushed, withParked, noted, fresh}
+use Rattle.answers.specs.Sizes.{listed}
+use Rattle.model.specs.Model.{Model, BLOCKED, READY, RUNNING, stateOf, homeOf, queueOf, idleOf, tenant, known, isIdle, started, startedOn, freeSlot, withState, withHome, withMark, withCpu, pushed, withParked, noted, fresh}
 
 -- 1 to 64 slots; beside 2 BadSize stands a table of one slot
 unfoldable pub newStep : ℕ → Step Model
-newStep n = cond (leb 1 n && leb n MOST) (record { reply = done; after = fresh n }) (refusing 2 (fresh 1))
+newStep n = cond (listed n) (record { reply = done; after = fresh n }) (refusing 2 (fresh 1))
 
 -- 3 NotStarted
 abbrev pub whenStarted : Model → Step Model → Step Model

@@ -19,7 +19,7 @@ use Rattle.model.specs.Steps.{whenStarted}
 abbrev pub peerOf : Model → ℕ → ℕ
 peerOf m t = (t + 1) % length (m .cpus)
 
--- marked, and no idle
+-- known, marked, and no idle
 abbrev pub stealeable : Model → TaskId → Bool
 stealeable m id = known m id && markOf m (id .slot) && not (isIdle m id)
 

@@ -35,7 +35,7 @@ fn claim(mut t: Tasks, cpu: u8, s: usize) -> Claimed
         slot: s as u16,
         epoch: t.epochs[s],
     };
-    t.states[s] = 2;
+    t.states[s] = memory::RUNNING;
     t.homes[s] = cpu;
     t.marks[s] = false;
     t.currents[c] = id;
@@ -50,7 +50,7 @@ pub fn start_in(t: Tasks) -> Acked
     requires { ⌜ Sound t ⌝ }
     ensures { λ r. ⌜ Does table t (r .tasks) (ackReply (r .answer)) (startStep (view t)) ⌝ }
 {
-    if t.states[0] != 0 {
+    if t.states[0] != memory::EMPTY {
         return Acked {
             tasks: t,
             answer: Ack::Refused(Refusal::Again),
@@ -71,7 +71,7 @@ pub fn start_cpu_in(t: Tasks, cpu: u8) -> Gave
     requires { ⌜ cpu < CPUS ⌝ }
     ensures { λ r. ⌜ Does table t (r .tasks) (namedReply (r .answer)) (startCpuStep (view t) cpu) ⌝ }
 {
-    if t.states[0] == 0 {
+    if t.states[0] == memory::EMPTY {
         return Gave {
             tasks: t,
             answer: Named::Refused(Refusal::NotStarted),
@@ -108,14 +108,14 @@ pub fn admit_on_in(mut t: Tasks, cpu: u8) -> Gave
     requires { ⌜ Sound t ⌝ }
     ensures { λ r. ⌜ Does table t (r .tasks) (namedReply (r .answer)) (admitStep (view t) cpu) ⌝ }
 {
-    if t.states[0] == 0 {
+    if t.states[0] == memory::EMPTY {
         return Gave {
             tasks: t,
             answer: Named::Refused(Refusal::NotStarted),
         };
     }
     let c = cpu as usize;
-    if 2 <= c {
+    if memory::CPUS <= c {
         return Gave {
             tasks: t,
             answer: Named::Nothing,
@@ -136,7 +136,7 @@ pub fn admit_on_in(mut t: Tasks, cpu: u8) -> Gave
     };
     let len = t.lens[c];
     let to = memory::spot(c, n, t.heads[c] + len);
-    t.states[s] = 1;
+    t.states[s] = memory::READY;
     t.homes[s] = cpu;
     t.marks[s] = false;
     t.ring_slots[to] = id.slot;
@@ -155,7 +155,7 @@ pub fn set_stealeable_in(mut t: Tasks, id: TaskId, mark: bool) -> Said
     requires { ⌜ Sound t ⌝ }
     ensures { λ r. ⌜ Does table t (r .tasks) (toldReply (r .answer)) (markStep (view t) id mark) ⌝ }
 {
-    if t.states[0] == 0 {
+    if t.states[0] == memory::EMPTY {
         return Said {
             tasks: t,
             answer: Told::Refused(Refusal::NotStarted),
@@ -187,7 +187,7 @@ pub fn wake_in(mut t: Tasks, id: TaskId) -> Said
     requires { ⌜ Sound t ⌝ }
     ensures { λ r. ⌜ Does table t (r .tasks) (toldReply (r .answer)) (wakeStep (view t) id) ⌝ }
 {
-    if t.states[0] == 0 {
+    if t.states[0] == memory::EMPTY {
         return Said {
             tasks: t,
             answer: Told::Refused(Refusal::NotStarted),
@@ -201,7 +201,7 @@ pub fn wake_in(mut t: Tasks, id: TaskId) -> Said
         };
     }
     let s = id.slot as usize;
-    if t.states[s] != 3 {
+    if t.states[s] != memory::BLOCKED {
         return Said {
             tasks: t,
             answer: Told::Is(false),
@@ -210,7 +210,7 @@ pub fn wake_in(mut t: Tasks, id: TaskId) -> Said
     let c = t.homes[s] as usize;
     let len = t.lens[c];
     let to = memory::spot(c, n, t.heads[c] + len);
-    t.states[s] = 1;
+    t.states[s] = memory::READY;
     t.ring_slots[to] = id.slot;
     t.ring_epochs[to] = id.epoch;
     t.lens[c] = len + 1;
@@ -225,7 +225,7 @@ pub fn collect_in(mut t: Tasks) -> Gave
     requires { ⌜ Sound t ⌝ }
     ensures { λ r. ⌜ Does table t (r .tasks) (namedReply (r .answer)) (collectStep (view t)) ⌝ }
 {
-    if t.states[0] == 0 {
+    if t.states[0] == memory::EMPTY {
         return Gave {
             tasks: t,
             answer: Named::Refused(Refusal::NotStarted),

@@ -25,11 +25,11 @@ use Rattle.text.specs.Text.{FEED, upTo, lines}
 use Rattle.text.proofs.ReadLaws.{lines-cons}
 use Rattle.lines.specs.Asked.{Asked}
 use Rattle.lines.specs.Lines.{readLine}
-use Rattle.output.specs.Output.{SLOTS, TOKENS}
+use Rattle.output.specs.Output.{TASKS, TOKENS}
 use Rattle.output.specs.Places.{Next}
 use Rattle.output.proofs.Arms.{here}
 
-pub begun : (a : Tasks) (b : WaitTable) (c : Table) (d : WakeQueue) (got gave : Reply) → Makes tasks-kind.table a got (tasks-steps.newStep SLOTS) → Makes waits-kind.waits b done waits.newStep → Makes deadlines-kind.deadlines c done deadlines.newStep → Makes wakes-kind.wakes d gave (tokens.newStep TOKENS) → (view (here a b c d) ≡ fresh SLOTS TOKENS) × AllSound (here a b c d)
+pub begun : (a : Tasks) (b : WaitTable) (c : Table) (d : WakeQueue) (got gave : Reply) → Makes tasks-kind.table a got (tasks-steps.newStep TASKS) → Makes waits-kind.waits b done waits.newStep → Makes deadlines-kind.deadlines c done deadlines.newStep → Makes wakes-kind.wakes d gave (tokens.newStep TOKENS) → (view (here a b c d) ≡ fresh TASKS TOKENS) × AllSound (here a b c d)
 unfolding tasks-steps.newStep tokens.newStep wakes-kind.listed
 begun a b c d got gave ma mb mc md =
     (rw (ma .after, mb .after, mc .after, md .after), record { tasks = ma .sound; waits = mb .sound; deadlines = mc .sound; wakes = md .sound })

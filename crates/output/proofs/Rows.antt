@@ -12,11 +12,15 @@ use Rattle.text.specs.Text.{bytes, same, onto, split, trim, lines, value, numbe
 use Rattle.text.specs.Print.{digits, decimal}
 use Rattle.lines.specs.Lines.{pick, withOne, withTwo, kindWord, oneWord, twoWords, threeWords, readWords, readLine}
 use Rattle.print.specs.Texts.{idText, answerText, lineText}
-use Rattle.output.specs.Output.{plays, endText, run, eventsText}
+use Rattle.output.specs.Output.{REFUSAL, plays, endText, run, eventsText}
 
 pub example : eventsText (bytes "new 4\nstart\nadmit 0\nswitch 0 yield\nswitch 0 exit\ncollect") ≡ bytes "events 1\n1 0 ok\n2 0 ok\n3 0 1/0\n4 0 0/0 1/0 -\n5 0 1/0 0/0 -\n6 0 1/0\nend 6 1 0 2\n"
 unfolding eventsText run endText plays step task.step startStep claimed admitStep admitted freeSlot firstAt countOf tab switchStep switchOn pulls turn leaves chooses enters parks collectStep lines trim split onto readLine readWords oneWord twoWords threeWords pick same withOne withTwo kindWord number value lineText answerText idText decimal digits
 example = refl
+
+pub refused-whole : REFUSAL ≡ bytes "0 13\n"
+unfolding lineText answerText decimal digits
+refused-whole = refl
 
 pub nothing : eventsText [] ≡ bytes "events 1\nend 0 0 0 0\n"
 unfolding eventsText run endText countOf lines trim split decimal digits

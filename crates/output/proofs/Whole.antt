@@ -7,9 +7,9 @@ use lib.ListN.{length, take, drop-of-length-le}
 use borrow.Author.Tests.{lt-ltb, le-ltb}
 use Rattle.runs.specs.Tables.{fresh}
 use Rattle.runs.specs.Outcomes.{Memory, view}
-use Rattle.text.specs.Text.{bytes, lines}
+use Rattle.text.specs.Text.{lines}
 use Rattle.text.proofs.ReadLaws.{lines-none}
-use Rattle.output.specs.Output.{SLOTS, TOKENS, INPUT, run, endText, eventsText}
+use Rattle.output.specs.Output.{TASKS, TOKENS, INPUT, HEADER, REFUSAL, run, endText, eventsText}
 use Rattle.output.specs.Places.{toWrite, Filled}
 
 -- a place between two chunks
@@ -38,14 +38,14 @@ at-end : (input : List ℕ) (r : Place) → length input ≤ r .at → left inpu
 unfolding run
 at-end input r h = ap (λ l. run (view (r .tables)) (r .number) (lines l)) (drop-of-length-le input h) ∙ ap (run (view (r .tables)) (r .number)) lines-none
 
-pub whole : (input : List ℕ) (t : Memory) (r : Place) (cs : List (List ℕ)) → length input ≤ INPUT → view t ≡ fresh SLOTS TOKENS → Chunks input (record { tables = t; number = 0; at = 0 }) cs r → length input ≤ r .at
-    → eventsText input ≡ bytes "events 1\n" ++ (joined cs ++ endText (r .number) (view (r .tables)))
+pub whole : (input : List ℕ) (t : Memory) (r : Place) (cs : List (List ℕ)) → length input ≤ INPUT → view t ≡ fresh TASKS TOKENS → Chunks input (record { tables = t; number = 0; at = 0 }) cs r → length input ≤ r .at
+    → eventsText input ≡ HEADER ++ (joined cs ++ endText (r .number) (view (r .tables)))
 unfolding eventsText
 whole input t r cs short e k h =
     rw (le-ltb INPUT (length input) short)
-    (ap (λ x. bytes "events 1\n" ++ x) (ap (λ p. run p 0 (lines input)) (sym e) ∙ chunks-told input k ∙ ap (λ x. joined cs ++ x) (at-end input r h)))
+    (ap (λ x. HEADER ++ x) (ap (λ p. run p 0 (lines input)) (sym e) ∙ chunks-told input k ∙ ap (λ x. joined cs ++ x) (at-end input r h)))
 
 -- and of a script that is too long
-pub too-long : (input : List ℕ) → INPUT < length input → eventsText input ≡ bytes "events 1\n" ++ bytes "0 13\n"
+pub too-long : (input : List ℕ) → INPUT < length input → eventsText input ≡ HEADER ++ REFUSAL
 unfolding eventsText
 too-long input h = rw (lt-ltb INPUT (length input) h)

@@ -1,12 +1,13 @@
 -- Document 01, "The program `events`": the whole output for a whole input.
-use mathlib.Core.Bool.{cond, _&&_}
+use mathlib.Core.Bool.{cond}
 use mathlib.Core.List.{List, [], _∷_, _++_}
 use Prim.Native.Nat.{ℕ, _+_, _-_}
-use lib.Dec.{leb, ltb}
+use lib.Dec.{ltb}
 use lib.ListN.{length}
-use Rattle.answers.specs.Reply.{done}
+use Rattle.answers.specs.Reply.{done, refused}
 use Rattle.answers.specs.Contract.{Step, refusing}
-use Rattle.model.specs.Model.{MOST, occupied}
+use Rattle.answers.specs.Sizes.{listed}
+use Rattle.model.specs.Model.{occupied}
 use Rattle.runs.specs.Tables.{Tables, fresh, withDeadlines, step}
 use Rattle.text.specs.Text.{bytes, lines}
 use Rattle.text.specs.Print.{decimal}
@@ -15,15 +16,15 @@ use Rattle.lines.specs.Lines.{readLine}
 use Rattle.print.specs.Texts.{lineText}
 
 -- a script starts with tables of 57 slots and 32 places for tokens
-abbrev pub SLOTS : ℕ
-SLOTS = 57
+abbrev pub TASKS : ℕ
+TASKS = 57
 
 abbrev pub TOKENS : ℕ
 TOKENS = 32
 
 -- what a line answers and leaves: 2 for a size that is not listed, 12 for what can't be read
 unfoldable pub plays : Tables → Asked → Step Tables
-plays t (afresh n) = cond (leb 1 n && leb n MOST) (record { reply = done; after = fresh n TOKENS }) (refusing 2 t)
+plays t (afresh n) = cond (listed n) (record { reply = done; after = fresh n TOKENS }) (refusing 2 t)
 plays t (calls k) = step t k
 plays t unreadable = refusing 12 t
 
@@ -49,5 +50,12 @@ run t n (l ∷ ls) =
 abbrev pub INPUT : ℕ
 INPUT = 65536
 
+abbrev pub HEADER : List ℕ
+HEADER = bytes "events 1\n"
+
+-- the answer to a script as a whole
+abbrev pub REFUSAL : List ℕ
+REFUSAL = lineText 0 (refused 13) []
+
 unfoldable pub eventsText : List ℕ → List ℕ
-eventsText input = bytes "events 1\n" ++ cond (ltb INPUT (length input)) (bytes "0 13\n") (run (fresh SLOTS TOKENS) 0 (lines input))
+eventsText input = HEADER ++ cond (ltb INPUT (length input)) REFUSAL (run (fresh TASKS TOKENS) 0 (lines input))

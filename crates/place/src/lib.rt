@@ -7,13 +7,16 @@ ghost use Rattle.runs.specs.Tables.{fresh};
 ghost use Rattle.runs.specs.Outcomes.{AllSound, view};
 ghost use Rattle.text.specs.Print.{Wrote};
 ghost use Rattle.lines.specs.Asked.{lineOf};
-ghost use Rattle.output.specs.Output.{SLOTS, TOKENS, INPUT, field, endText};
+ghost use Rattle.output.specs.Output.{TASKS, TOKENS, INPUT, HEADER, REFUSAL, field, endText};
 ghost use Rattle.output.specs.Places.{Next};
 ghost use Rattle.place.specs.Here.{tablesOf};
+use answers::Ack;
+use answers::Refusal;
 use irqwait::WaitTable;
 use lines::Line;
 use memory::Tasks;
 use parktime::Table;
+use print::Answer;
 use wake::WakeQueue;
 
 // The most bytes of a script.
@@ -38,7 +41,7 @@ pub struct Ahead {
 
 // Fresh tables of 57 slots and 32 places for tokens.
 pub fn begin() -> Place
-    ensures { λ r. ⌜ (r .at ≡ 0) × (r .number ≡ 0) × (view (tablesOf r) ≡ fresh SLOTS TOKENS) × AllSound (tablesOf r) ⌝ }
+    ensures { λ r. ⌜ (r .at ≡ 0) × (r .number ≡ 0) × (view (tablesOf r) ≡ fresh TASKS TOKENS) × AllSound (tablesOf r) ⌝ }
 {
     let made = Tasks::new(57);
     let tasks = made.tasks;
@@ -53,6 +56,22 @@ pub fn begin() -> Place
         deadlines: Table::new(),
         wakes: wakes,
     }
+}
+
+// The first line.
+pub fn header(out: &mut [u8]) -> usize
+    requires { ⌜ 256 ≤ length (now out) ⌝ }
+    ensures { λ r. ⌜ Wrote (now (out .entry)) 0 HEADER r (now (out .exit)) ⌝ }
+{
+    print::text(out, 0, b"events 1\n")
+}
+
+// The answer to a script that is too long, after which nothing follows.
+pub fn refusal(out: &mut [u8]) -> usize
+    requires { ⌜ 256 ≤ length (now out) ⌝ }
+    ensures { λ r. ⌜ Wrote (now (out .entry)) 0 REFUSAL r (now (out .exit)) ⌝ }
+{
+    print::line(out, 0, 0, Answer::Ack(Ack::Refused(Refusal::TooLong)))
 }
 
 // Whether a script of n bytes is refused with 13.
@@ -106,7 +125,7 @@ fn wide(v: u32) -> u64
     v as u64
 }
 
-// The tasks besides the two idle ones, or none.
+// The occupied slots but two, or none.
 fn agents(live: u32) -> u32
     ensures { λ r. ⌜ r ≡ live - 2 ⌝ }
 {

@@ -1,13 +1,13 @@
 // Answers as text, in a buffer that the caller lends. Each function writes from the index `at` on, and returns the index after
 // what it wrote.
 ghost use mathlib.Core.List.{[], _++_};
-ghost use Prim.Native.Nat.{_≤_, _+_};
+ghost use Prim.Native.Nat.{_≤_, _<_, _+_};
 ghost use lib.ListN.{length, take};
 ghost use Rattle.answers.specs.Answers.{refusalNo, ackReply, toldReply, countReply, namedReply};
 ghost use Rattle.switch.specs.Decisions.{releaseOf, decisionReply};
 ghost use Rattle.wake.specs.Steps.{poppedReply};
 ghost use Rattle.text.specs.Text.{bytes};
-ghost use Rattle.text.specs.Print.{Wrote};
+ghost use Rattle.text.specs.Print.{twoDigits, Wrote};
 ghost use Rattle.text.specs.Print.{decimal as Print·decimal};
 ghost use Rattle.print.specs.Texts.{idText, idOrNone, idsText, answerText, lineText};
 ghost use Rattle.print.specs.Said.{answerReply};
@@ -43,8 +43,21 @@ pub fn text(out: &mut [u8], at: usize, s: &[u8]) -> usize
     at + i
 }
 
-// The digits of a hundredth of the number, then its last two: half as many calls as one digit at a time.
-pub fn decimal(out: &mut [u8], at: usize, n: u64) -> usize
+// A number below a hundred, whatever its size.
+fn two(out: &mut [u8], at: usize, n: u64) -> usize
+    requires { ⌜ n < 100 ⌝ }
+    requires { ⌜ at + 2 ≤ length (now out) ⌝ }
+    ensures { λ r. ⌜ Wrote (now (out .entry)) at (twoDigits n) r (now (out .exit)) ⌝ }
+{
+    out[at] = 48 + (n / 10) as u8;
+    let last = at + 1;
+    out[last] = 48 + (n % 10) as u8;
+    last + 1
+}
+
+// One digit or two.
+fn short(out: &mut [u8], at: usize, n: u64) -> usize
+    requires { ⌜ n < 100 ⌝ }
     requires { ⌜ at + length (Print·decimal n) ≤ length (now out) ⌝ }
     ensures { λ r. ⌜ Wrote (now (out .entry)) at (Print·decimal n) r (now (out .exit)) ⌝ }
 {
@@ -52,17 +65,33 @@ pub fn decimal(out: &mut [u8], at: usize, n: u64) -> usize
         out[at] = 48 + n as u8;
         return at + 1;
     }
-    if n < 100 {
-        out[at] = 48 + (n / 10) as u8;
-        let last = at + 1;
-        out[last] = 48 + (n % 10) as u8;
-        return last + 1;
+    two(out, at, n)
+}
+
+// The digits of a hundredth of the number, then its last two: half as many calls as one digit at a time.
+fn long(out: &mut [u8], at: usize, n: u64) -> usize
+    requires { ⌜ 100 ≤ n ⌝ }
+    requires { ⌜ at + length (Print·decimal n) ≤ length (now out) ⌝ }
+    ensures { λ r. ⌜ Wrote (now (out .entry)) at (Print·decimal n) r (now (out .exit)) ⌝ }
+{
+    let hundreds = n / 100;
+    if hundreds < 100 {
+        let tens = short(out, at, hundreds);
+        return two(out, tens, n % 100);
     }
-    let tens = decimal(out, at, n / 100);
-    out[tens] = 48 + (n / 10 % 10) as u8;
-    let last = tens + 1;
-    out[last] = 48 + (n % 10) as u8;
-    last + 1
+    let tens = long(out, at, hundreds);
+    two(out, tens, n % 100)
+}
+
+// Most numbers are short: they take no call but this one.
+pub fn decimal(out: &mut [u8], at: usize, n: u64) -> usize
+    requires { ⌜ at + length (Print·decimal n) ≤ length (now out) ⌝ }
+    ensures { λ r. ⌜ Wrote (now (out .entry)) at (Print·decimal n) r (now (out .exit)) ⌝ }
+{
+    if n < 100 {
+        return short(out, at, n);
+    }
+    long(out, at, n)
 }
 
 pub fn id(out: &mut [u8], at: usize, i: TaskId) -> usize

@@ -23,7 +23,7 @@ pub fn current_on_in(t: Tasks, cpu: u8) -> Named
     ensures { λ r. ⌜ Reads table t (namedReply r) (currentReply (view t) cpu) ⌝ }
 {
     let c = cpu as usize;
-    if 2 <= c {
+    if memory::CPUS <= c {
         return Named::Refused(Refusal::BadCpu);
     }
     let id = t.currents[c];
@@ -35,7 +35,7 @@ pub fn idle_of_in(t: Tasks, cpu: u8) -> Named
     ensures { λ r. ⌜ Reads table t (namedReply r) (idleReply (view t) cpu) ⌝ }
 {
     let c = cpu as usize;
-    if 2 <= c {
+    if memory::CPUS <= c {
         return Named::Refused(Refusal::BadCpu);
     }
     let id = t.idles[c];
@@ -48,7 +48,7 @@ pub fn has_ready_on_in(t: Tasks, cpu: u8) -> Told
     ensures { λ r. ⌜ Reads table t (toldReply r) (readyReply (view t) cpu) ⌝ }
 {
     let c = cpu as usize;
-    if 2 <= c {
+    if memory::CPUS <= c {
         return Told::Refused(Refusal::BadCpu);
     }
     Told::Is(t.lens[c] != 0)
@@ -67,13 +67,13 @@ fn named_state(code: u8) -> State
     requires { ⌜ code < STATES ⌝ }
     ensures { λ r. ⌜ stateNo r ≡ code ⌝ }
 {
-    if code == 0 {
+    if code == memory::EMPTY {
         return State::Empty;
     }
-    if code == 1 {
+    if code == memory::READY {
         return State::Ready;
     }
-    if code == 2 {
+    if code == memory::RUNNING {
         return State::Running;
     }
     State::Blocked
@@ -109,7 +109,7 @@ pub fn live_id_in(t: Tasks, slot: usize) -> Named
     if t.n <= slot {
         return Named::Nothing;
     }
-    if t.states[slot] == 0 {
+    if t.states[slot] == memory::EMPTY {
         return Named::Nothing;
     }
     let id = TaskId {
@@ -133,13 +133,13 @@ pub fn can_steal_into_in(t: Tasks, thief: u8) -> Told
     ensures { λ r. ⌜ Reads table t (toldReply r) (canStealReply (view t) thief) ⌝ }
 {
     let c = thief as usize;
-    if 2 <= c {
+    if memory::CPUS <= c {
         return Told::Is(false);
     }
     if t.lens[c] != 0 {
         return Told::Is(false);
     }
-    let peer = (c + 1) % 2;
+    let peer = (c + 1) % memory::CPUS;
     let n = t.n;
     let idles = t.idles;
     let len = t.lens[peer];

@@ -1,4 +1,5 @@
-// A sum, and an answer as a number added to it: none and a stay count as the largest, a refusal as two.
+// A sum, and an answer as a number added to it: none and a stay count as the largest, a refusal as two, a switch as the task that
+// it gave the CPU.
 use answers::Ack;
 use answers::Count;
 use answers::Named;
@@ -11,8 +12,13 @@ const NONE: u64 = 18446744073709551615;
 
 const REFUSED: u64 = 2;
 
+const HALF: u64 = 9223372036854775808;
+
+// The sum is turned by a bit first, so that the order of answers counts too.
 pub fn plus(sum: u64, n: u64) -> u64 {
-    std::num::wrapping_add_u64(sum, n)
+    let twice = std::num::wrapping_add_u64(sum, sum);
+    let turned = std::num::wrapping_add_u64(twice, sum / HALF);
+    std::num::wrapping_add_u64(turned, n)
 }
 
 fn raw(id: TaskId) -> u64 {

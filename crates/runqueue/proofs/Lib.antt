@@ -1,3 +1,4 @@
 pub mod Places
 pub mod RingLaws
 pub mod Laws
+pub mod Rows

@@ -5,11 +5,12 @@ use lib.ListN.{getD}
 use Rattle.lists.specs.Tab.{tab}
 use Rattle.ids.specs.declared.TaskId.{TaskId}
 use Rattle.answers.specs.Contract.{Kind}
+use Rattle.answers.specs.Sizes as sizes
 use Rattle.runqueue.specs.declared.RunQueue.{RunQueue}
 
 -- the largest table, and so the places that memory holds for a ring
 abbrev pub MOST : ℕ
-MOST = 64
+MOST = sizes.MOST
 
 -- where x places from the start of a ring of n lie
 unfoldable pub placed : ℕ → ℕ → ℕ

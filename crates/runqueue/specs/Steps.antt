@@ -1,16 +1,17 @@
 -- What each call on a ring answers, and what it leaves.
-use mathlib.Core.Bool.{cond, _&&_}
+use mathlib.Core.Bool.{cond}
 use mathlib.Core.List.{List, [], _∷_, _++_}
 use mathlib.Core.Option.{Option, some, none}
 use Prim.Native.Nat.{ℕ}
 use lib.ListN.{length, getElem?}
-use lib.Dec.{leb, ltb, eqb}
+use lib.Dec.{ltb, eqb}
 use Rattle.ids.specs.declared.TaskId.{TaskId}
 use Rattle.answers.specs.Reply.{Reply, done, told, number, named}
 use Rattle.answers.specs.Contract.{Step, refusing}
+use Rattle.answers.specs.Sizes.{listed}
 use Rattle.runqueue.specs.declared.Requeue as requeue
 use Rattle.runqueue.specs.declared.Requeue.the-variants as requeue-of
-use Rattle.runqueue.specs.Ring.{Ring, MOST}
+use Rattle.runqueue.specs.Ring.{Ring}
 
 abbrev pub requeued : requeue.Requeue → Option TaskId
 requeued (requeue-of.Id t) = some t
@@ -21,7 +22,7 @@ ringOf n l = record { n = n; items = l }
 
 -- 1 to 64 places; beside 2 BadSize stands an empty ring of one place
 unfoldable pub newStep : ℕ → Step Ring
-newStep n = cond (leb 1 n && leb n MOST) (record { reply = done; after = ringOf n [] }) (refusing 2 (ringOf 1 []))
+newStep n = cond (listed n) (record { reply = done; after = ringOf n [] }) (refusing 2 (ringOf 1 []))
 
 abbrev pub capacityReply : Ring → Reply
 capacityReply q = number (q .n)

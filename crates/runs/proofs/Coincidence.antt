@@ -1,14 +1,18 @@
--- Any two outcomes that a contract admits coincide: instantiated for every public call. Each contract has one of the shapes
--- for which this is proved once (crate `answers`).
-use mathlib.Core.Path.{_≡_, sym, _∙_, ap, ap₂}
+-- Any two outcomes that a contract admits coincide, for each public call on a table, by the lemmas that crate `answers` proves
+-- for every kind of table. The other public calls take no table: a contract of `ids` is an equation for the value itself, and for
+-- `lifecycle` see its `Once`. Outcomes are compared by their replies; equal replies are equal answers of the code (`Apart` in
+-- `answers`, `wake` and `switch`).
+use mathlib.Core.Path.{_≡_, sym, _∙_, ap}
 use mathlib.Core.Bool.{Bool, true, false}
 use mathlib.Core.Logic.{⊎-elim}
 use Prim.Native.Nat.{ℕ}
 use Rattle.lists.specs.Tells.{Tells}
 use Rattle.lists.proofs.Basics.{true-or-false}
 use Rattle.answers.specs.Reply.{Reply}
-use Rattle.answers.specs.Contract.{Makes, Meets, lent}
+use Rattle.answers.specs.Contract.{Step, Makes, Meets}
+use Rattle.answers.specs.Run.{CallMeets}
 use Rattle.answers.proofs.Coincide.{Same, made-once, coincide}
+use Rattle.answers.proofs.Part.{whole-once}
 use Rattle.runqueue.specs.declared.RunQueue.{RunQueue}
 use Rattle.runqueue.specs.Ring as ring-kind
 use Rattle.runqueue.specs.Steps as rings
@@ -29,55 +33,32 @@ use Rattle.wake.specs.declared.WakeQueue.{WakeQueue}
 use Rattle.wake.specs.Queue as wakes-kind
 use Rattle.wake.specs.Steps as tokens
 use Rattle.wake.specs.Calls as token
-use Rattle.runs.specs.Tables.{Call, on-tasks, on-waits, on-deadlines, on-wakes, withTasks, withWaits, withDeadlines, withWakes}
-use Rattle.runs.specs.Outcomes.{Memory, view, tables, tasksTo, waitsTo, deadlinesTo, wakesTo, DeadlineMeets, Admits}
+use Rattle.runs.specs.Tables.{Call, on-tasks, on-waits, on-deadlines, on-wakes}
+use Rattle.runs.specs.Outcomes.{Memory, tables, deadlinesTo, Admits}
+use Rattle.runs.proofs.Parts.{in-tasks, in-waits, in-deadlines, in-lent, in-wakes}
 
 -- THE CALLS ON THE FOUR TABLES
 
 module _ (t u v : Memory) (a b : Reply) where
-  deadlines-once : (k : deadline.Call) → DeadlineMeets t k a (u .deadlines) (u .out) → DeadlineMeets t k b (v .deadlines) (v .out) → Same (lent deadlines-kind.deadlines) (u .deadlines, u .out) (v .deadlines, v .out) a b
-  deadlines-once (deadline.arm id at) m n =
-      let s = coincide deadlines-kind.deadlines (t .deadlines) (u .deadlines) (v .deadlines) a b (deadlines.armStep (deadlines-kind.view (t .deadlines)) id at) (m .0) (n .0) in
-      record { reply = s .reply; after = ap₂ (λ x y. (x, y)) (s .after) (m .1 ∙ sym (n .1)); whole = λ r. ap₂ (λ x y. (x, y)) (s .whole r) (m .1 ∙ sym (n .1)) }
-  deadlines-once (deadline.disarm id) m n =
-      let s = coincide deadlines-kind.deadlines (t .deadlines) (u .deadlines) (v .deadlines) a b (deadlines.disarmStep (deadlines-kind.view (t .deadlines)) id) (m .0) (n .0) in
-      record { reply = s .reply; after = ap₂ (λ x y. (x, y)) (s .after) (m .1 ∙ sym (n .1)); whole = λ r. ap₂ (λ x y. (x, y)) (s .whole r) (m .1 ∙ sym (n .1)) }
-  deadlines-once (deadline.poll now out) m n =
-      coincide (lent deadlines-kind.deadlines) (t .deadlines, out) (u .deadlines, u .out) (v .deadlines, v .out) a b (deadlines.pollStep (deadlines-kind.view (t .deadlines), out) now) m n
+  -- a call on the deadlines that is lent no output
+  unlent-once : (want : Step deadlines-kind.Deadlines)
+      → Meets deadlines-kind.deadlines (t .deadlines) (u .deadlines) a want × (u .out ≡ t .out) → u ≡ deadlinesTo t (u .deadlines) (u .out)
+      → Meets deadlines-kind.deadlines (t .deadlines) (v .deadlines) b want × (v .out ≡ t .out) → v ≡ deadlinesTo t (v .deadlines) (v .out) → Same tables u v a b
+  unlent-once want m d n e =
+      whole-once tables (in-deadlines t) (t .deadlines) want (u .deadlines) (v .deadlines) u v a b (m .0) (n .0) (d ∙ ap (deadlinesTo t (u .deadlines)) (m .1)) (e ∙ ap (deadlinesTo t (v .deadlines)) (n .1))
 
   pub call-once : (k : Call) → Admits t k a u → Admits t k b v → Same tables u v a b
-  call-once (on-tasks k) x y =
-      let s = coincide tasks-kind.table (t .tasks) (u .tasks) (v .tasks) a b (task.step (tasks-kind.view (t .tasks)) k) (x .0) (y .0) in
-      record {
-        reply = s .reply;
-        after = ap view (x .1) ∙ ap (withTasks (view t)) (s .after) ∙ sym (ap view (y .1));
-        whole = λ r. x .1 ∙ ap (tasksTo t) (s .whole r) ∙ sym (y .1);
-      }
-  call-once (on-waits k) x y =
-      let s = coincide waits-kind.waits (t .waits) (u .waits) (v .waits) a b (wait.step (waits-kind.view (t .waits)) k) (x .0) (y .0) in
-      record {
-        reply = s .reply;
-        after = ap view (x .1) ∙ ap (withWaits (view t)) (s .after) ∙ sym (ap view (y .1));
-        whole = λ r. x .1 ∙ ap (waitsTo t) (s .whole r) ∙ sym (y .1);
-      }
-  call-once (on-deadlines k) x y =
-      let s = deadlines-once k (x .0) (y .0) in
-      record {
-        reply = s .reply;
-        after = ap view (x .1) ∙ ap (λ p. withDeadlines (view t) (p .0) (p .1)) (s .after) ∙ sym (ap view (y .1));
-        whole = λ r. x .1 ∙ ap (λ p. deadlinesTo t (p .0) (p .1)) (s .whole r) ∙ sym (y .1);
-      }
-  call-once (on-wakes k) x y =
-      let s = coincide wakes-kind.wakes (t .wakes) (u .wakes) (v .wakes) a b (token.step (wakes-kind.view (t .wakes)) k) (x .0) (y .0) in
-      record {
-        reply = s .reply;
-        after = ap view (x .1) ∙ ap (withWakes (view t)) (s .after) ∙ sym (ap view (y .1));
-        whole = λ r. x .1 ∙ ap (wakesTo t) (s .whole r) ∙ sym (y .1);
-      }
+  call-once (on-tasks k) x y = whole-once tables (in-tasks t) (t .tasks) (task.step (tasks-kind.view (t .tasks)) k) (u .tasks) (v .tasks) u v a b (x .0) (y .0) (x .1) (y .1)
+  call-once (on-waits k) x y = whole-once tables (in-waits t) (t .waits) (wait.step (waits-kind.view (t .waits)) k) (u .waits) (v .waits) u v a b (x .0) (y .0) (x .1) (y .1)
+  call-once (on-deadlines (deadline.arm id at)) x y = unlent-once (deadlines.armStep (deadlines-kind.view (t .deadlines)) id at) (x .0) (x .1) (y .0) (y .1)
+  call-once (on-deadlines (deadline.disarm id)) x y = unlent-once (deadlines.disarmStep (deadlines-kind.view (t .deadlines)) id) (x .0) (x .1) (y .0) (y .1)
+  call-once (on-deadlines (deadline.poll now out)) x y =
+      whole-once tables (in-lent t) (t .deadlines, out) (deadlines.pollStep (deadlines-kind.view (t .deadlines), out) now) (u .deadlines, u .out) (v .deadlines, v .out) u v a b (x .0) (y .0) (x .1) (y .1)
+  call-once (on-wakes k) x y = whole-once tables (in-wakes t) (t .wakes) (token.step (wakes-kind.view (t .wakes)) k) (u .wakes) (v .wakes) u v a b (x .0) (y .0) (x .1) (y .1)
 
 -- THE CALLS ON A RING ALONE
 
-pub ring-once : (q u v : RunQueue) (a b : Reply) (k : ring.Call) → Meets ring-kind.ring q u a (ring.step (ring-kind.view q) k) → Meets ring-kind.ring q v b (ring.step (ring-kind.view q) k) → Same ring-kind.ring u v a b
+pub ring-once : (q u v : RunQueue) (a b : Reply) (k : ring.Call) → CallMeets ring-kind.ring ring.step q k a u → CallMeets ring-kind.ring ring.step q k b v → Same ring-kind.ring u v a b
 ring-once q u v a b k = coincide ring-kind.ring q u v a b (ring.step (ring-kind.view q) k)
 
 -- THE MAKERS, for every size; those of the wait table and the deadlines take none
@@ -97,7 +78,7 @@ new-waits-once u v a b = made-once waits-kind.waits u v a b waits.newStep
 pub new-deadlines-once : (u v : Table) (a b : Reply) → Makes deadlines-kind.deadlines u a deadlines.newStep → Makes deadlines-kind.deadlines v b deadlines.newStep → (a ≡ b) × (deadlines-kind.view u ≡ deadlines-kind.view v)
 new-deadlines-once u v a b = made-once deadlines-kind.deadlines u v a b deadlines.newStep
 
--- THE SOUNDNESS TESTS, of any kind of table; and a call whose contract is an equation: packing, a verdict of `lifecycle`
+-- THE SOUNDNESS TESTS, of any kind of table
 
 pub test-once : {P : Type 0} (a b : Bool) → Tells a P → Tells b P → a ≡ b
 test-once a b s r =
@@ -105,6 +86,3 @@ test-once a b s r =
     (λ (x : a ≡ true). ⊎-elim (λ (y : b ≡ true). x ∙ sym y) (λ (y : b ≡ false). absurd (r .false-is y (s .true-is x))) (true-or-false b))
     (λ (x : a ≡ false). ⊎-elim (λ (y : b ≡ true). absurd (s .false-is x (r .true-is y))) (λ (y : b ≡ false). x ∙ sym y) (true-or-false b))
     (true-or-false a)
-
-pub told-once : {A : Type 0} (a b w : A) → a ≡ w → b ≡ w → a ≡ b
-told-once a b w x y = x ∙ sym y

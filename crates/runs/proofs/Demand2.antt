@@ -1,96 +1,65 @@
--- Demand 2: whatever the contracts admit, over any calls, is the model's run.
-use mathlib.Core.Path.{_≡_, refl, sym, _∙_, ap, ap₂, subst}
+-- Demand 2: whatever the contracts admit, over any calls, is the model's run. On the four tables, and on a ring alone.
+use mathlib.Core.Path.{_≡_, _∙_, ap, subst}
 use mathlib.Core.Bool.{Bool, cond, _&&_}
-use mathlib.Core.List.{List, [], _∷_}
+use mathlib.Core.List.{List, []}
 use Prim.Native.Nat.{ℕ}
 use lib.Dec.{leb}
-use Rattle.lists.specs.Each.{Each}
 use Rattle.answers.specs.Reply.{Reply, done}
-use Rattle.answers.specs.Contract.{lent, refusing}
-use Rattle.answers.specs.Run.{replies, trail}
+use Rattle.answers.specs.Contract.{Step, Makes, Meets, put, refusing}
+use Rattle.answers.specs.Run.{Outcome, Admitted, CallMeets, Follows, Kept}
 use Rattle.answers.proofs.Returns.{listed-by}
-use Rattle.answers.proofs.Coincide.{meets-does}
+use Rattle.answers.proofs.Part.{makes-whole}
+use Rattle.answers.proofs.Follow.{follows, follows-alone, kept-alone}
+use Rattle.runqueue.specs.declared.RunQueue.{RunQueue}
+use Rattle.runqueue.specs.Ring as ring-kind
+use Rattle.runqueue.specs.Steps as rings
+use Rattle.runqueue.specs.Calls as ring
 use Rattle.model.specs.Model as tasks
 use Rattle.model.specs.Steps as steps
+use Rattle.model.specs.Calls as task
 use Rattle.memory.specs.View as tasks-kind
 use Rattle.irqwait.specs.Waits as waits-kind
+use Rattle.irqwait.specs.Calls as wait
 use Rattle.parktime.specs.Deadlines as deadlines-kind
+use Rattle.parktime.specs.Steps as deadlines
 use Rattle.parktime.specs.Calls as deadline
 use Rattle.wake.specs.Queue as wakes-kind
 use Rattle.wake.specs.Steps as tokens
-use Rattle.runs.specs.Tables.{Call, on-tasks, on-waits, on-deadlines, on-wakes, fresh, withTasks, withWaits, withDeadlines, withWakes, step}
-use Rattle.runs.specs.Outcomes.{Memory, AllSound, view, Made, Outcome, deadlinesTo, DeadlineMeets, Admits, Admitted, Follows}
+use Rattle.wake.specs.Calls as token
+use Rattle.runs.specs.Tables.{Call, on-tasks, on-waits, on-deadlines, on-wakes, fresh, step}
+use Rattle.runs.specs.Outcomes.{Memory, AllSound, view, tables, Made, deadlinesTo, Admits}
+use Rattle.runs.proofs.Parts.{in-tasks, in-waits, in-deadlines, in-lent, in-wakes}
 
--- one call, on sound tables: the reply and the tables after it are the model's, and sound
-pub record Right (t : Memory) (k : Call) (got : Reply) (u : Memory) : Type 0 where
-  pub reply : got ≡ step (view t) k .reply
-  pub after : view u ≡ step (view t) k .after
-  pub sound : AllSound u
+-- ONE CALL, ON SOUND TABLES
 
-module _ (t : Memory) (s : AllSound t) (got : Reply) (u : Memory) where
-  right-deadlines : (k : deadline.Call) → DeadlineMeets t k got (u .deadlines) (u .out) → u ≡ deadlinesTo t (u .deadlines) (u .out) → Right t (on-deadlines k) got u
-  unfolding step
-  right-deadlines (deadline.arm id at) m e =
-      let d = meets-does deadlines-kind.deadlines _ _ _ _ (s .deadlines) (m .0) .makes in
-      record {
-        reply = d .reply;
-        after = ap view e ∙ ap₂ (λ a b. withDeadlines (view t) a b) (d .after) (m .1);
-        sound = subst AllSound (sym e) (record { tasks = s .tasks; waits = s .waits; deadlines = d .sound; wakes = s .wakes });
-      }
-  right-deadlines (deadline.disarm id) m e =
-      let d = meets-does deadlines-kind.deadlines _ _ _ _ (s .deadlines) (m .0) .makes in
-      record {
-        reply = d .reply;
-        after = ap view e ∙ ap₂ (λ a b. withDeadlines (view t) a b) (d .after) (m .1);
-        sound = subst AllSound (sym e) (record { tasks = s .tasks; waits = s .waits; deadlines = d .sound; wakes = s .wakes });
-      }
-  right-deadlines (deadline.poll now out) m e =
-      let d = meets-does (lent deadlines-kind.deadlines) _ _ _ _ (s .deadlines) m .makes in
-      record {
-        reply = d .reply;
-        after = ap view e ∙ ap (λ p. withDeadlines (view t) (p .0) (p .1)) (d .after);
-        sound = subst AllSound (sym e) (record { tasks = s .tasks; waits = s .waits; deadlines = d .sound; wakes = s .wakes });
-      }
+module _ (t u : Memory) (got : Reply) (s : AllSound t) where
+  keeps-deadlines : (o : List ℕ) → deadlines-kind.Sound (u .deadlines) → AllSound (deadlinesTo t (u .deadlines) o)
+  keeps-deadlines o g = record { tasks = s .tasks; waits = s .waits; deadlines = g; wakes = s .wakes }
 
-  pub right : (k : Call) → Admits t k got u → Right t k got u
+  -- a call on the deadlines that is lent no output
+  unlent : (want : Step deadlines-kind.Deadlines) → Meets deadlines-kind.deadlines (t .deadlines) (u .deadlines) got want × (u .out ≡ t .out) → u ≡ deadlinesTo t (u .deadlines) (u .out) → Makes tables u got (put (in-deadlines t .paper) want)
+  unlent want m e = makes-whole tables (in-deadlines t) (t .deadlines) want (u .deadlines) u got (s .deadlines) (keeps-deadlines (t .out)) (m .0) (e ∙ ap (deadlinesTo t (u .deadlines)) (m .1))
+
+  right : (k : Call) → Admits t k got u → Makes tables u got (step (view t) k)
   unfolding step
   right (on-tasks k) a =
-      let d = meets-does tasks-kind.table _ _ _ _ (s .tasks) (a .0) .makes in
-      record {
-        reply = d .reply;
-        after = ap view (a .1) ∙ ap (withTasks (view t)) (d .after);
-        sound = subst AllSound (sym (a .1)) (record { tasks = d .sound; waits = s .waits; deadlines = s .deadlines; wakes = s .wakes });
-      }
+      makes-whole tables (in-tasks t) (t .tasks) (task.step (tasks-kind.view (t .tasks)) k) (u .tasks) u got (s .tasks)
+      (λ g. record { tasks = g; waits = s .waits; deadlines = s .deadlines; wakes = s .wakes }) (a .0) (a .1)
   right (on-waits k) a =
-      let d = meets-does waits-kind.waits _ _ _ _ (s .waits) (a .0) .makes in
-      record {
-        reply = d .reply;
-        after = ap view (a .1) ∙ ap (withWaits (view t)) (d .after);
-        sound = subst AllSound (sym (a .1)) (record { tasks = s .tasks; waits = d .sound; deadlines = s .deadlines; wakes = s .wakes });
-      }
-  right (on-deadlines k) a = right-deadlines k (a .0) (a .1)
+      makes-whole tables (in-waits t) (t .waits) (wait.step (waits-kind.view (t .waits)) k) (u .waits) u got (s .waits)
+      (λ g. record { tasks = s .tasks; waits = g; deadlines = s .deadlines; wakes = s .wakes }) (a .0) (a .1)
+  right (on-deadlines (deadline.arm id at)) a = unlent (deadlines.armStep (deadlines-kind.view (t .deadlines)) id at) (a .0) (a .1)
+  right (on-deadlines (deadline.disarm id)) a = unlent (deadlines.disarmStep (deadlines-kind.view (t .deadlines)) id) (a .0) (a .1)
+  right (on-deadlines (deadline.poll now out)) a =
+      makes-whole tables (in-lent t) (t .deadlines, out) (deadlines.pollStep (deadlines-kind.view (t .deadlines), out) now) (u .deadlines, u .out) u got (s .deadlines) (keeps-deadlines (u .out)) (a .0) (a .1)
   right (on-wakes k) a =
-      let d = meets-does wakes-kind.wakes _ _ _ _ (s .wakes) (a .0) .makes in
-      record {
-        reply = d .reply;
-        after = ap view (a .1) ∙ ap (withWakes (view t)) (d .after);
-        sound = subst AllSound (sym (a .1)) (record { tasks = s .tasks; waits = s .waits; deadlines = s .deadlines; wakes = d .sound });
-      }
+      makes-whole tables (in-wakes t) (t .wakes) (token.step (wakes-kind.view (t .wakes)) k) (u .wakes) u got (s .wakes)
+      (λ g. record { tasks = s .tasks; waits = s .waits; deadlines = s .deadlines; wakes = g }) (a .0) (a .1)
 
--- from any sound tables
-pub follows : (t : Memory) (ks : List Call) (os : List Outcome) → AllSound t → Admitted t ks os → Follows (view t) ks os
-unfolding Admitted replies trail Each
-follows t [] [] s a = record { replies-are = refl; tables-are = refl; sound = tt }
-follows t [] (o ∷ os) s a = absurd a
-follows t (k ∷ ks) [] s a = absurd a
-follows t (k ∷ ks) (o ∷ os) s a =
-    let one = right t s (o .reply) (o .tables) k (a .0) in
-    let rest = follows (o .tables) ks os (one .sound) (a .1) in
-    record {
-      replies-are = ap₂ (λ x y. x ∷ y) (one .reply) (rest .replies-are ∙ ap (λ p. replies step p ks) (one .after));
-      tables-are = ap₂ (λ x y. x ∷ y) (one .after) (rest .tables-are ∙ ap (λ p. trail step p ks) (one .after));
-      sound = (one .sound, rest .sound);
-    }
+-- FROM ANY SOUND TABLES
+
+pub from-sound : (t : Memory) (ks : List Call) (os : List (Outcome Memory)) → AllSound t → Admitted Admits t ks os → Follows tables step (view t) ks os
+from-sound = follows tables step Admits (λ t u k got s a. right t u got s k a)
 
 -- FROM FRESH TABLES
 
@@ -114,5 +83,16 @@ module _ (n c : ℕ) (t : Memory) (m : Made n c t) where
   made-fresh = rw (made-tasks, made-wakes, m .waits .after, m .deadlines .after, m .out)
 
   -- every N and C listed, every list of calls, whatever the contracts admit
-  pub demand2 : (ks : List Call) (os : List Outcome) → Admitted t ks os → Follows (fresh n c) ks os
-  demand2 ks os a = subst (λ p. Follows p ks os) made-fresh (follows t ks os made-sound a)
+  pub demand2 : (ks : List Call) (os : List (Outcome Memory)) → Admitted Admits t ks os → Follows tables step (fresh n c) ks os
+  demand2 ks os a = subst (λ p. Follows tables step p ks os) made-fresh (from-sound t ks os made-sound a)
+
+-- A RING ALONE
+
+pub ring-demand2 : (n : ℕ) (q : RunQueue) → Makes ring-kind.ring q done (rings.newStep n) → (ks : List ring.Call) (os : List (Outcome RunQueue)) → Admitted (CallMeets ring-kind.ring ring.step) q ks os → Follows ring-kind.ring ring.step (rings.ringOf n []) ks os
+unfolding rings.newStep
+ring-demand2 n q m ks os a =
+    let made = m .after ∙ done-made (leb 1 n && leb n ring-kind.MOST) (rings.ringOf n []) (rings.ringOf 1 []) (m .reply) in
+    subst (λ p. Follows ring-kind.ring ring.step p ks os) made (follows-alone ring-kind.ring ring.step q ks os (m .sound) a)
+
+pub ring-kept : (q : RunQueue) (ks : List ring.Call) (os : List (Outcome RunQueue)) → Admitted (CallMeets ring-kind.ring ring.step) q ks os → Kept q os
+ring-kept = kept-alone ring-kind.ring ring.step

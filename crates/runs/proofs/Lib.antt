@@ -1,3 +1,4 @@
+pub mod Parts
 pub mod Demand2
 pub mod Projects
 pub mod SheetRows

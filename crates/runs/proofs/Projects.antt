@@ -1,5 +1,5 @@
--- A run on the four tables is a run on each: calls on the others do not matter. So what is proved of calls on one table
--- (demand 3, conservation, the counters) holds over all calls.
+-- The task table that calls on the four tables leave is the one that those on the task table leave, and likewise the wake queue. So
+-- what is proved of a table after calls on it (its counters; `drops` here) holds after calls on all four.
 use mathlib.Core.Path.{_≡_, refl, _∙_, ap}
 use mathlib.Core.List.{List, [], _∷_}
 use Prim.Native.Nat.{ℕ, _%_}

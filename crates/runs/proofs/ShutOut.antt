@@ -1,4 +1,4 @@
--- Document 01, "What the contracts have to nail": programs that no run admits, told apart by their second answer or a later one.
+-- Document 01, "What the contracts have to nail": programs that no run admits, told apart by an answer or by a table.
 use mathlib.Core.Path.{_≡_, refl, sym, _∙_, ap}
 use mathlib.Core.List.{List, [], _∷_}
 use mathlib.Core.Option.{some, none}
@@ -9,13 +9,13 @@ use Rattle.lists.specs.Tab.{tab}
 use Rattle.lists.specs.Search.{firstAt, countOf}
 use Rattle.ids.specs.declared.TaskId.{TaskId}
 use Rattle.answers.specs.Reply.{Reply, refused, done, named, stays, switched}
-use Rattle.answers.specs.Run.{replies, trail}
+use Rattle.answers.specs.Run.{replies, trail, Outcome, Admitted, said, seen}
 use Rattle.model.specs.Model.{freeSlot, occupied}
 use Rattle.model.specs.Steps.{claimed, startStep, admitted, admitStep}
 use Rattle.model.specs.Switch.{yield, leaves, enters, parks, chooses, turn, pulls, switchOn, switchStep}
 use Rattle.model.specs.Calls as task
 use Rattle.runs.specs.Tables.{Tables, Call, on-tasks, fresh, step}
-use Rattle.runs.specs.Outcomes.{Memory, Made, Outcome, Admitted, view, said, seen}
+use Rattle.runs.specs.Outcomes.{Memory, view, tables, Made, Admits}
 use Rattle.runs.specs.Sheet.{id}
 use Rattle.runs.proofs.Demand2.{made-fresh, demand2}
 
@@ -33,7 +33,7 @@ right-answers : replies step (fresh 4 32) two-yields ≡ done ∷ named (some (i
 unfolding replies step task.step startStep claimed admitStep admitted freeSlot firstAt countOf tab switchStep switchOn pulls turn leaves chooses enters parks
 right-answers = refl
 
-module _ (t : Memory) (made : Made 4 32 t) (os : List Outcome) (run : Admitted t two-yields os) where
+module _ (t : Memory) (made : Made 4 32 t) (os : List (Outcome Memory)) (run : Admitted Admits t two-yields os) where
   answers-are : said os ≡ done ∷ named (some (id 1 0)) ∷ to-one ∷ to-idle ∷ []
   answers-are = demand2 4 32 t made two-yields os run .replies-are ∙ right-answers
 
@@ -41,9 +41,9 @@ module _ (t : Memory) (made : Made 4 32 t) (os : List Outcome) (run : Admitted t
   pub not-stay-later : said os ≡ done ∷ named (some (id 1 0)) ∷ to-one ∷ stays ∷ [] → ⊥
   not-stay-later e = let f = sym answers-are ∙ e in let z : _≡_ {A = ℕ} 0 1 = cc in omega arith
 
-  -- one constant decision
-  pub not-constant : said os ≡ done ∷ named (some (id 1 0)) ∷ to-one ∷ to-one ∷ [] → ⊥
-  not-constant e =
+  -- one constant decision, whichever, for both switches, after whatever answers
+  pub not-constant : (a b d : Reply) → said os ≡ a ∷ b ∷ d ∷ d ∷ [] → ⊥
+  not-constant a b d e =
       let f = sym answers-are ∙ e in
       let g : id 1 0 ≡ id 0 0 = cc in
       let z : _≡_ {A = ℕ} 1 0 = ap (λ (i : TaskId). i .slot) g in
@@ -57,10 +57,10 @@ module _ (t : Memory) (made : Made 4 32 t) (os : List Outcome) (run : Admitted t
   not-refusing-later b c d e = let f = sym answers-are ∙ e in let z : _≡_ {A = ℕ} 0 1 = cc in omega arith
 
   -- tables handed back untouched: after the start a slot is occupied
-  pub not-untouched : (o : Outcome) (rest : List Outcome) → os ≡ o ∷ rest → o .tables ≡ t → ⊥
+  pub not-untouched : (o : Outcome Memory) (rest : List (Outcome Memory)) → os ≡ o ∷ rest → o .table ≡ t → ⊥
   unfolding trail step task.step startStep claimed countOf
   not-untouched o rest e same =
-      let f = sym (demand2 4 32 t made two-yields os run .tables-are) ∙ ap seen e in
+      let f = sym (demand2 4 32 t made two-yields os run .tables-are) ∙ ap (seen tables) e in
       let g = ap (λ (l : List Tables). occupied (getD l 0 (fresh 4 32) .tasks)) f in
       let z : _≡_ {A = ℕ} 1 0 = g ∙ ap (λ (m : Memory). occupied (view m .tasks)) same ∙ ap (λ (p : Tables). occupied (p .tasks)) (made-fresh 4 32 t made) in
       omega arith

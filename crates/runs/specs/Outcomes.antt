@@ -1,11 +1,10 @@
--- The four tables in memory, and what the contracts of the calls admit, one call after the other.
+-- The four tables in memory, and what the contracts of the calls on them admit.
 use mathlib.Core.Path.{_≡_}
-use mathlib.Core.List.{List, [], _∷_, map}
+use mathlib.Core.List.{List, []}
 use Prim.Native.Nat.{ℕ}
-use Rattle.lists.specs.Each.{Each}
 use Rattle.answers.specs.Reply.{Reply, done}
 use Rattle.answers.specs.Contract.{Kind, Makes, Meets, lent}
-use Rattle.answers.specs.Run.{replies, trail}
+use Rattle.answers.specs.Run.{CallMeets}
 use Rattle.model.specs.Steps as tasks
 use Rattle.model.specs.Calls as task
 use Rattle.memory.specs.declared.Tasks.{Tasks}
@@ -22,7 +21,7 @@ use Rattle.wake.specs.declared.WakeQueue.{WakeQueue}
 use Rattle.wake.specs.Queue as wakes-kind
 use Rattle.wake.specs.Steps as tokens
 use Rattle.wake.specs.Calls as token
-use Rattle.runs.specs.Tables.{Tables, Call, on-tasks, on-waits, on-deadlines, on-wakes, step}
+use Rattle.runs.specs.Tables.{Tables, Call, on-tasks, on-waits, on-deadlines, on-wakes}
 
 pub record Memory : Type 0 where
   pub tasks : Tasks
@@ -79,34 +78,7 @@ DeadlineMeets t (deadline.poll now out) got u o = Meets (lent deadlines-kind.dea
 
 -- the contract of a call admits an outcome; the tables that the call is not about stay with the caller
 abbrev pub Admits : Memory → Call → Reply → Memory → Type 0
-Admits t (on-tasks k) got u = Meets tasks-kind.table (t .tasks) (u .tasks) got (task.step (tasks-kind.view (t .tasks)) k) × (u ≡ tasksTo t (u .tasks))
-Admits t (on-waits k) got u = Meets waits-kind.waits (t .waits) (u .waits) got (wait.step (waits-kind.view (t .waits)) k) × (u ≡ waitsTo t (u .waits))
+Admits t (on-tasks k) got u = CallMeets tasks-kind.table task.step (t .tasks) k got (u .tasks) × (u ≡ tasksTo t (u .tasks))
+Admits t (on-waits k) got u = CallMeets waits-kind.waits wait.step (t .waits) k got (u .waits) × (u ≡ waitsTo t (u .waits))
 Admits t (on-deadlines k) got u = DeadlineMeets t k got (u .deadlines) (u .out) × (u ≡ deadlinesTo t (u .deadlines) (u .out))
-Admits t (on-wakes k) got u = Meets wakes-kind.wakes (t .wakes) (u .wakes) got (token.step (wakes-kind.view (t .wakes)) k) × (u ≡ wakesTo t (u .wakes))
-
--- what a call answered, and the tables after it
-pub record Outcome : Type 0 where
-  pub reply : Reply
-  pub tables : Memory
-
--- outcomes that the contracts admit, one after the other
-unfoldable pub Admitted : Memory → List Call → List Outcome → Type 0
-Admitted t [] [] = Unit {0}
-Admitted t [] (o ∷ os) = ⊥
-Admitted t (k ∷ ks) [] = ⊥
-Admitted t (k ∷ ks) (o ∷ os) = Admits t k (o .reply) (o .tables) × Admitted (o .tables) ks os
-
--- THE MODEL'S RUN
-
-abbrev pub said : List Outcome → List Reply
-said os = map (λ (o : Outcome). o .reply) os
-
-abbrev pub seen : List Outcome → List Tables
-seen os = map (λ (o : Outcome). view (o .tables)) os
-
--- outcomes follow the model's run from p: the replies are its replies, the tables after each call are its tables, and
--- every table on the way is sound
-pub record Follows (p : Tables) (ks : List Call) (os : List Outcome) : Type 0 where
-  pub replies-are : said os ≡ replies step p ks
-  pub tables-are : seen os ≡ trail step p ks
-  pub sound : Each (λ (o : Outcome). AllSound (o .tables)) os
+Admits t (on-wakes k) got u = CallMeets wakes-kind.wakes token.step (t .wakes) k got (u .wakes) × (u ≡ wakesTo t (u .wakes))

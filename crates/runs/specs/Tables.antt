@@ -2,7 +2,7 @@
 -- call that reads one.
 use mathlib.Core.List.{List, [], _∷_}
 use Prim.Native.Nat.{ℕ}
-use Rattle.answers.specs.Contract.{Step}
+use Rattle.answers.specs.Contract.{Step, put}
 use Rattle.model.specs.Model as tasks
 use Rattle.model.specs.Calls as task
 use Rattle.irqwait.specs.Waits.{Waits}
@@ -47,9 +47,6 @@ abbrev pub withWakes : Tables → Queue → Tables
 withWakes t q = record { tasks = t .tasks; waits = t .waits; deadlines = t .deadlines; wakes = q; out = t .out }
 
 -- WHAT A CALL ANSWERS AND LEAVES
-
-abbrev pub put : {P : Type 0} → (P → Tables) → Step P → Step Tables
-put into s = record { reply = s .reply; after = into (s .after) }
 
 -- a poll is lent an output, and hands it back
 abbrev pub deadlineStep : Tables → deadline.Call → Step Tables

@@ -1,8 +1,11 @@
 -- The scans over the slots of a table, turn by turn.
-use mathlib.Core.Path.{_≡_, refl, sym, _∙_, ap}
+use mathlib.Core.Path.{_≡_, refl, sym, _∙_, ap, subst}
 use mathlib.Core.Bool.{Bool, true, false, _&&_, not}
 use mathlib.Core.List.{List}
-use Prim.Native.Nat.{ℕ, _+_, _≤_, _<_}
+use mathlib.Core.Logic.{⊎-elim}
+use Prim.Native.Nat.{ℕ, zero, suc, _+_, _-_, _≤_, _<_}
+use native.Mathlib.Nat.{add-zero, add-suc}
+use native.Mathlib.Numerals.{add-one}
 use native.Mathlib.Omega.{arith}
 use borrow.Author.Tests.{lt-ltb, le-ltb, eq-eqb, ne-eqb, ltb-true}
 use lib.Dec.{eqb, ltb}
@@ -12,10 +15,12 @@ use Rattle.lists.specs.Tab.{tab}
 use Rattle.lists.specs.Search.{countOf}
 use Rattle.lists.proofs.TabLaws.{length-tab, getD-tab}
 use Rattle.lists.proofs.SearchLaws.{Passed, passed-none, passed-more, passed-hit, passed-all, Counting, counting-none, counting-hit, counting-pass, counting-all, any-hit, any-none}
-use Rattle.lists.proofs.Basics.{below-next, both-true}
+use Rattle.lists.proofs.Basics.{below-next, both-true, lt-or-ge}
 use Rattle.ids.specs.declared.TaskId.{TaskId}
 use Rattle.ids.specs.Id.{sameId, idle}
+use Rattle.model.specs.Model.{EMPTY}
 use Rattle.memory.specs.Parts.{knownIn, idleIn, stealeableIn, vacantIn, freeIn}
+use Rattle.scans.specs.Slots.{LowestEmpty}
 
 -- KNOWN
 
@@ -62,6 +67,30 @@ module _ (idles : List TaskId) (id : TaskId) where
   pub idle-none : (c : ℕ) → length idles ≤ c → NoneOf idles id c → false ≡ idleIn idles id
   unfolding idleIn NoneOf
   idle-none c h f = sym (any-none (λ i. sameId id i) idles idle (λ i l. f i (omega arith)))
+
+-- EMPTY SLOTS
+
+module _ (states : List ℕ) (from : ℕ) where
+  -- none of the slots from `from` up to s is Empty
+  pub Full : ℕ → Type 0
+  Full s = (i : ℕ) → from ≤ i → i < s → getD states i 0 ≡ EMPTY → ⊥
+
+  pub full-none : Full from
+  unfolding Full
+  full-none i l h e = absurd (omega arith)
+
+  pub full-more : (s : ℕ) → Full s → (getD states s 0 ≡ EMPTY → ⊥) → Full (s + 1)
+  unfolding Full
+  full-more s f g i l h = below-next (λ j. getD states j 0 ≡ EMPTY → ⊥) s i h (f i l) g
+
+  module _ (n s : ℕ) (f : Full s) (l : from ≤ s) where
+    pub empty-is : s < n → getD states s 0 ≡ EMPTY → LowestEmpty states from n s
+    unfolding Full
+    empty-is h e = record { least = l; most = omega arith; before = f; there = λ _. e }
+
+    pub empty-none : s ≡ n → LowestEmpty states from n s
+    unfolding Full
+    empty-none e = record { least = l; most = omega arith; before = f; there = λ h. absurd (omega arith) }
 
 -- FREE SLOTS
 
@@ -110,6 +139,37 @@ module _ (states : List ℕ) (parked : Bool) (at n : ℕ) where
 
     pub vacant-parked : getD states s 0 ≡ 0 → parked ≡ true → at ≡ s → vacantIn states parked at s ≡ false
     vacant-parked h f e = rw (eq-eqb (getD states s 0) 0 h, f, eq-eqb at s e)
+
+  -- no Empty slot lies between a slot up to which none is free and r
+  taken-run : (from k : ℕ) → Taken from → from + k ≤ n → ((i : ℕ) → from ≤ i → i < from + k → getD states i 0 ≡ EMPTY → ⊥) → Taken (from + k)
+  taken-run from zero p h f = subst Taken (sym (add-zero from)) p
+  taken-run from (suc k) p h f = subst Taken (sym (add-suc from k ∙ sym (add-one (from + k)))) (taken-more (from + k) (taken-run from k p (omega arith) (λ i l m. f i l (omega arith))) (omega arith) (vacant-not (from + k) (f (from + k) (omega arith) (omega arith))))
+
+  taken-to : (from r : ℕ) → Taken from → LowestEmpty states from n r → Taken r
+  taken-to from r p e =
+      let to : from + (r - from) ≡ r = omega (arith, e .least) in
+      subst Taken to (taken-run from (r - from) p (omega (arith, e .least, e .most)) (λ i l m. e .before i l (omega (arith, e .least))))
+
+  -- the lowest Empty slot
+  module _ (s : ℕ) (e : LowestEmpty states 0 n s) where
+    taken : Taken s
+    taken = taken-to 0 s taken-none e
+
+    pub free-past : n ≤ s → s ≡ freeIn states parked at n
+    free-past h = free-none s taken h
+
+    module _ (h : s < n) where
+      pub free-unparked : parked ≡ false → s ≡ freeIn states parked at n
+      free-unparked f = free-is s taken h (vacant-free s (e .there h) f)
+
+      pub free-other : (at ≡ s → ⊥) → s ≡ freeIn states parked at n
+      free-other f = free-is s taken h (vacant-other s (e .there h) f)
+
+      -- where it is the parked one, the next
+      pub free-behind : (r : ℕ) → parked ≡ true → at ≡ s → LowestEmpty states (s + 1) n r → r ≡ freeIn states parked at n
+      free-behind r f q d =
+          let all = taken-to (s + 1) r (taken-more s taken h (vacant-parked s (e .there h) f q)) d in
+          ⊎-elim (λ (l : r < n). free-is r all l (vacant-other r (d .there l) (λ o. absurd (omega (arith, d .least))))) (λ (l : n ≤ r). free-none r all l) (lt-or-ge r n)
 
 -- COUNTS
 

@@ -3,6 +3,7 @@ ghost use mathlib.Core.Path.{_≡_};
 ghost use Prim.Native.Nat.{ℕ, _≤_, max};
 ghost use lib.ListN.{length};
 ghost use Rattle.memory.specs.Parts.{knownIn, idleIn, stealeableIn, freeIn, occupiedIn, blockedIn};
+ghost use Rattle.scans.specs.Slots.{LowestEmpty};
 use ids::TaskId;
 
 // Whether an id names the tenant that its slot has now.
@@ -22,7 +23,7 @@ pub fn is_idle(idles: [TaskId; 2], id: TaskId) -> bool
     ensures { λ r. ⌜ r ≡ idleIn idles id ⌝ }
 {
     let mut c = 0;
-    while c < 2 {
+    while c < memory::CPUS {
         let i = idles[c];
         if id.same(i) {
             return true;
@@ -53,24 +54,39 @@ pub fn stealeable<'a>(
     !is_idle(idles, id)
 }
 
-// The lowest slot that is Empty and not the parked one, or n.
-pub fn free_slot<'a>(states: &'a [u8; 64], n: usize, parked: bool, at: usize) -> usize
+// The lowest Empty slot that is not below one, or n.
+fn empty_from<'a>(states: &'a [u8; 64], n: usize, from: usize) -> usize
     requires { ⌜ n ≤ 64 ⌝ }
-    ensures { λ r. ⌜ (r ≡ freeIn (now (states .entry)) parked at n) × (r ≤ n) ⌝ }
+    requires { ⌜ from ≤ n ⌝ }
+    ensures { λ r. ⌜ LowestEmpty (now (states .entry)) from n r ⌝ }
 {
-    let mut s = 0;
+    let mut s = from;
     while s < n {
-        if states[s] == 0 {
-            if !parked {
-                return s;
-            }
-            if at != s {
-                return s;
-            }
+        if states[s] == memory::EMPTY {
+            return s;
         }
         s = s + 1;
     }
     s
+}
+
+// The lowest slot that is Empty and not the parked one, or n. The loop does not ask about the parked one: only if that is
+// the lowest does it go on behind it.
+pub fn free_slot<'a>(states: &'a [u8; 64], n: usize, parked: bool, at: usize) -> usize
+    requires { ⌜ n ≤ 64 ⌝ }
+    ensures { λ r. ⌜ (r ≡ freeIn (now (states .entry)) parked at n) × (r ≤ n) ⌝ }
+{
+    let s = empty_from(states, n, 0);
+    if n <= s {
+        return s;
+    }
+    if !parked {
+        return s;
+    }
+    if at != s {
+        return s;
+    }
+    empty_from(states, n, s + 1)
 }
 
 // How many of the first n slots are not Empty.
@@ -82,7 +98,7 @@ pub fn occupied<'a>(states: &'a [u8; 64], n: usize) -> u32
     let mut k = 0u32;
     let mut s = 0;
     while s < n {
-        if states[s] != 0 {
+        if states[s] != memory::EMPTY {
             k = k + 1;
         }
         s = s + 1;
@@ -99,7 +115,7 @@ pub fn blocked<'a>(states: &'a [u8; 64], n: usize) -> u32
     let mut k = 0u32;
     let mut s = 0;
     while s < n {
-        if states[s] == 3 {
+        if states[s] == memory::BLOCKED {
             k = k + 1;
         }
         s = s + 1;

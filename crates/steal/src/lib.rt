@@ -1,4 +1,4 @@
-// Stealing: an idle CPU takes the first stealeable task of its peer's queue.
+// Stealing: a CPU whose queue is empty takes the first stealeable task of its peer's queue.
 ghost use mathlib.Core.Path.{_≡_};
 ghost use mathlib.Core.Bool.{true};
 ghost use Prim.Native.Nat.{_≤_, _<_};
@@ -71,7 +71,7 @@ pub fn pull(t: Tasks, thief: usize) -> Pulled
     requires { ⌜ lenOf t thief ≡ 0 ⌝ }
     ensures { λ r. ⌜ Pulls t thief (r .tasks) (r .moved) ⌝ }
 {
-    let peer = (thief + 1) % 2;
+    let peer = (thief + 1) % memory::CPUS;
     let r = scan(t, peer);
     let mut u = r.tasks;
     let len = u.lens[peer];
@@ -106,14 +106,14 @@ pub fn try_steal_into_in(t: Tasks, thief: u8) -> Said
     requires { ⌜ Sound t ⌝ }
     ensures { λ r. ⌜ Does table t (r .tasks) (toldReply (r .answer)) (tryStealStep (view t) thief) ⌝ }
 {
-    if t.states[0] == 0 {
+    if t.states[0] == memory::EMPTY {
         return Said {
             tasks: t,
             answer: Told::Refused(Refusal::NotStarted),
         };
     }
     let c = thief as usize;
-    if 2 <= c {
+    if memory::CPUS <= c {
         return Said {
             tasks: t,
             answer: Told::Is(false),

@@ -59,14 +59,14 @@ pub fn switch_on_in(mut t: Tasks, cpu: u8, kind: Kind) -> Switched
     requires { ⌜ Sound t ⌝ }
     ensures { λ r. ⌜ Does table t (r .tasks) (decisionReply (r .answer)) (switchStep (view t) cpu (kindOf kind)) ⌝ }
 {
-    if t.states[0] == 0 {
+    if t.states[0] == memory::EMPTY {
         return Switched {
             tasks: t,
             answer: Decision::Refused(Refusal::NotStarted),
         };
     }
     let c = cpu as usize;
-    if 2 <= c {
+    if memory::CPUS <= c {
         return Switched {
             tasks: t,
             answer: Decision::Stay,
@@ -103,17 +103,17 @@ pub fn switch_on_in(mut t: Tasks, cpu: u8, kind: Kind) -> Switched
         Kind::Yield | Kind::Preempt => {
             let len = t.lens[c];
             let to = memory::spot(c, n, t.heads[c] + len);
-            t.states[f] = 1;
+            t.states[f] = memory::READY;
             t.ring_slots[to] = from.slot;
             t.ring_epochs[to] = from.epoch;
             t.lens[c] = len + 1;
         }
         Kind::Block => {
-            t.states[f] = 3;
+            t.states[f] = memory::BLOCKED;
             t.block_events = raised(t.block_events);
         }
         Kind::Exit => {
-            t.states[f] = 0;
+            t.states[f] = memory::EMPTY;
             t.epochs[f] = std::num::wrapping_add_u16(t.epochs[f], 1);
         }
     }
@@ -127,7 +127,7 @@ pub fn switch_on_in(mut t: Tasks, cpu: u8, kind: Kind) -> Switched
         epoch: epoch,
     };
     let g = to.slot as usize;
-    t.states[g] = 2;
+    t.states[g] = memory::RUNNING;
     t.heads[c] = runqueue::place(n, head + 1);
     t.lens[c] = t.lens[c] - 1;
     t.currents[c] = to;

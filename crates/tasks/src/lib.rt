@@ -137,7 +137,7 @@ pub fn try_steal_into(t: Tasks, thief: u8) -> Said
     steal::try_steal_into_in(t, thief)
 }
 
-// The same on CPU 0.
+// As `switch_on`, on CPU 0.
 pub fn switch(t: Tasks, kind: Kind) -> Switched
     ensures { λ r. ⌜ Meets table t (r .tasks) (decisionReply (r .answer)) (switchStep (view t) 0 (kindOf kind)) ⌝ }
 {

@@ -10,7 +10,7 @@ use lib.Dec.{ltb}
 use lib.ListN.{length, take, drop, set, getD, length-set, length-append, length-drop}
 use lib.Seq.{take-at, drop-at, drop-drop, take-suc, take-all, length-take-le, set-split, append-snoc, paste-zero}
 use borrow.Author.Tests.{lt-ltb, le-ltb}
-use Rattle.text.specs.Print.{digits, decimal, put, Wrote}
+use Rattle.text.specs.Print.{digits, decimal, twoDigits, put, Wrote}
 
 -- DIGITS
 
@@ -63,25 +63,26 @@ pub length-more : (n : ℕ) → n < 2 ^ 64 → 10 ≤ n → length (decimal n) �
 length-more n w h = ap length (decimal-more n w h) ∙ length-append (decimal (n / 10)) ((48 + n % 10) ∷ [])
 
 -- two digits at a time
-pub decimal-two : (n : ℕ) → n < 100 → 10 ≤ n → decimal n ≡ (48 + n / 10) ∷ (48 + n % 10) ∷ []
+pub decimal-two : (n : ℕ) → n < 100 → 10 ≤ n → decimal n ≡ twoDigits n
 decimal-two n h m =
     decimal-more n (omega arith) m ∙ ap (λ (l : List ℕ). l ++ ((48 + n % 10) ∷ [])) (decimal-one (n / 10) (omega arith))
 
-pub decimal-hundred : (n : ℕ) → n < 2 ^ 64 → 100 ≤ n → decimal n ≡ decimal (n / 100) ++ ((48 + n / 10 % 10) ∷ []) ++ ((48 + n % 10) ∷ [])
+pub decimal-hundred : (n : ℕ) → n < 2 ^ 64 → 100 ≤ n → decimal n ≡ decimal (n / 100) ++ twoDigits (n % 100)
 decimal-hundred n w h =
     let hundred : n / 10 / 10 ≡ n / 100 = omega arith in
+    let tens : n / 10 % 10 ≡ n % 100 / 10 = omega arith in
+    let ones : n % 10 ≡ n % 100 % 10 = omega arith in
     decimal-more n w (omega arith)
     ∙ ap (λ (l : List ℕ). l ++ ((48 + n % 10) ∷ [])) (decimal-more (n / 10) (omega arith) (omega arith) ∙ ap (λ k. decimal k ++ ((48 + n / 10 % 10) ∷ [])) hundred)
+    ∙ append-assoc (decimal (n / 100)) ((48 + n / 10 % 10) ∷ []) ((48 + n % 10) ∷ [])
+    ∙ ap (λ t. decimal (n / 100) ++ ((48 + t) ∷ (48 + n % 10) ∷ [])) tens
+    ∙ ap (λ t. decimal (n / 100) ++ ((48 + n % 100 / 10) ∷ (48 + t) ∷ [])) ones
 
 pub length-two : (n : ℕ) → n < 100 → 10 ≤ n → length (decimal n) ≡ 2
 length-two n h m = ap length (decimal-two n h m)
 
 pub length-hundred : (n : ℕ) → n < 2 ^ 64 → 100 ≤ n → length (decimal n) ≡ length (decimal (n / 100)) + 2
-length-hundred n w h =
-    ap length (decimal-hundred n w h)
-    ∙ length-append (decimal (n / 100) ++ ((48 + n / 10 % 10) ∷ [])) ((48 + n % 10) ∷ [])
-    ∙ ap (λ k. k + 1) (length-append (decimal (n / 100)) ((48 + n / 10 % 10) ∷ []))
-    ∙ omega arith
+length-hundred n w h = ap length (decimal-hundred n w h) ∙ length-append (decimal (n / 100)) (twoDigits (n % 100))
 
 -- any number, and one below a power of ten
 pub decimal-short : (n : ℕ) → length (decimal n) ≤ 20

@@ -15,6 +15,10 @@ digits (suc f) n = cond (ltb n 10) ((48 + n) ∷ []) (digits f (n / 10) ++ ((48 
 unfoldable pub decimal : ℕ → List ℕ
 decimal n = digits 19 n
 
+-- a number below a hundred, whatever its size
+abbrev pub twoDigits : ℕ → List ℕ
+twoDigits n = (48 + n / 10) ∷ (48 + n % 10) ∷ []
+
 -- a buffer with a text from an index on
 unfoldable pub put : List ℕ → ℕ → List ℕ → List ℕ
 put o at t = take at o ++ t ++ drop (at + length t) o

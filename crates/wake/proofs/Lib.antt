@@ -1,4 +1,5 @@
 pub mod Held
 pub mod Laws
+pub mod Apart
 pub mod Drops
 pub mod Rows

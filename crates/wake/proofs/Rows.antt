@@ -4,7 +4,7 @@ use mathlib.Core.Bool.{true, false}
 use mathlib.Core.List.{[], _∷_}
 use mathlib.Core.Option.{some, none}
 use Rattle.answers.specs.Reply.{told, number, value}
-use Rattle.answers.specs.Run.{replies}
+use Rattle.answers.specs.Run.{replies, times}
 use Rattle.wake.specs.Steps.{fresh, queueOf, pushStep, popOf}
 use Rattle.wake.specs.Calls.{push, pop, drops, empty, step}
 use Rattle.wake.specs.History.{failures}
@@ -21,5 +21,5 @@ wraps = refl
 
 -- a push that is dropped is counted, one that is held is not
 pub counted : failures (fresh 2) (push 1 ∷ push 2 ∷ pop ∷ push 3 ∷ push 4 ∷ []) ≡ 2
-unfolding failures step pushStep popOf
+unfolding times step pushStep popOf
 counted = refl

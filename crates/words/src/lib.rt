@@ -1,6 +1,6 @@
 // The words of a script's line: where a part ends, numbers with a largest value, ids.
 ghost use mathlib.Core.Path.{_≡_};
-ghost use Prim.Native.Nat.{_≤_, _<_, _+_};
+ghost use Prim.Native.Nat.{_≤_, _<_, _+_, _-_};
 ghost use lib.ListN.{length, take, drop};
 ghost use Rattle.text.specs.Text.{upTo, number as Text·number};
 ghost use Rattle.text.specs.Text.{same as Text·same};
@@ -17,11 +17,12 @@ pub enum ReadId {
     Bad,
 }
 
-// How many bytes stand before the first s, or all of them where there is none.
-pub fn until(l: &[u8], s: u8) -> usize
-    ensures { λ r. ⌜ (r ≡ upTo s (now (l .entry))) × (r ≤ length (now (l .entry))) ⌝ }
+// Where the first s stands that is not before an index, or the end of l where there is none.
+pub fn until_from(l: &[u8], from: usize, s: u8) -> usize
+    requires { ⌜ from ≤ length (now l) ⌝ }
+    ensures { λ r. ⌜ (r ≡ from + upTo s (drop from (now (l .entry)))) × (r ≤ length (now (l .entry))) ⌝ }
 {
-    let mut i = 0;
+    let mut i = from;
     while i < l.len() {
         if l[i] == s {
             return i;
@@ -29,6 +30,22 @@ pub fn until(l: &[u8], s: u8) -> usize
         i += 1;
     }
     i
+}
+
+// How many bytes stand before the first s, or all of them where there is none.
+pub fn until(l: &[u8], s: u8) -> usize
+    ensures { λ r. ⌜ (r ≡ upTo s (now (l .entry))) × (r ≤ length (now (l .entry))) ⌝ }
+{
+    until_from(l, 0, s)
+}
+
+// What stands from the byte at a on and before the byte at b.
+pub fn part(l: &[u8], a: usize, b: usize) -> &[u8]
+    requires { ⌜ a ≤ b ⌝ }
+    requires { ⌜ b ≤ length (now l) ⌝ }
+    ensures { λ r. ⌜ now r ≡ take (b - a) (drop a (now (l .entry))) ⌝ }
+{
+    &l[a..b]
 }
 
 // What stands before the byte at n.

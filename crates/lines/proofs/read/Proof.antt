@@ -1,66 +1,113 @@
 -- Too long, or of one word, two, three or more.
 use mathlib.Core.Path.{sym, _∙_}
 use borrow.Author.Needs.{needs}
-use Rattle.lines.proofs.Laws.{too-long, words-one, words-two, words-three, words-more}
+use Rattle.lines.proofs.Laws.{too-long, one-by, two-by, three-by, more-by}
 use Rattle.lines.proofs.read.Statement.{statement}
 use Rattle.lines.proofs.read.Tie as tie
 
 returns : tie.Need-returns
 returns c = too-long _ (c .if1 .taken)
 
+until-from-requires : tie.Need-until-from-requires
+until-from-requires c κs = search needs
+
+one-word-requires : tie.Need-one-word-requires
+one-word-requires c κs = search needs
+
 returns-2 : tie.Need-returns-2
-returns-2 c = let u = c .before .before in c .one-word .ensures ∙ sym (words-one _ _ (u .before .if1 .left) (u .until .ensures .0) (c .before .if2 .taken))
+returns-2 c =
+    let u = c .before .before in
+    c .one-word .ensures ∙ sym (one-by _ _ (u .before .if1 .left) (u .until-from .ensures .0) (c .before .if2 .taken))
+
+add-until-from : tie.Need-add-until-from
+add-until-from c = search needs
+
+until-from-requires-2 : tie.Need-until-from-requires-2
+until-from-requires-2 c κs = search needs
+
+head-requires : tie.Need-head-requires
+head-requires c κs = search needs
+
+rest-requires : tie.Need-rest-requires
+rest-requires c κs = search needs
+
+two-words-requires : tie.Need-two-words-requires
+two-words-requires c κs = search needs
 
 returns-3 : tie.Need-returns-3
 returns-3 c =
-    let r = c .before .before .before in
-    let u = r .before .before .before in
-    let e =
-    words-two _ _ (u .before .if1 .left) (u .until .ensures .0)
-    _ _ _ (r .before .before .if2 .left) (r .before .head .ensures) (r .rest .ensures) (c .before .before .until2 .ensures .0)
-    (c .before .if3 .taken)
-    in
-    c .two-words .ensures ∙ sym e
+    let r = c .before in
+    let t = r .before .before in
+    let w = t .before in
+    let e = w .before in
+    let u = e .before in
+    c .two-words .ensures
+    ∙ sym (two-by _ _ (u .before .if1 .left) (u .until-from .ensures .0) _ (e .if2 .left) (w .until-from2 .ensures .0) _ _ (r .before .head .ensures) (r .rest .ensures) (t .if3 .taken))
+
+add-until-from-2 : tie.Need-add-until-from-2
+add-until-from-2 c = search needs
+
+until-from-requires-3 : tie.Need-until-from-requires-3
+until-from-requires-3 c κs = search needs
 
 returns-4 : tie.Need-returns-4
 returns-4 c =
-    let s = c .before .before in
-    let r = s .before .before .before .before in
-    let u = r .before .before .before in
-    words-more _ _ (u .before .if1 .left) (u .until .ensures .0)
-    _ _ _ (r .before .before .if2 .left) (r .before .head .ensures) (r .rest .ensures) (s .before .before .before .until2 .ensures .0)
-    _ _ _ (s .before .before .if3 .left) (s .before .head2 .ensures) (s .rest2 .ensures) (c .before .until3 .ensures .0)
-    (c .if4 .taken)
+    let x = c .before in
+    let t = x .before in
+    let w = t .before in
+    let e = w .before in
+    let u = e .before in
+    more-by _ _ (u .before .if1 .left) (u .until-from .ensures .0) _ (e .if2 .left) (w .until-from2 .ensures .0) _ (t .if3 .left) (x .until-from3 .ensures .0) (c .if4 .taken)
+
+head-requires-2 : tie.Need-head-requires-2
+head-requires-2 c κs = search needs
+
+add-part : tie.Need-add-part
+add-part c = search needs
+
+part-requires : tie.Need-part-requires
+part-requires c κs = search needs
+
+rest-requires-2 : tie.Need-rest-requires-2
+rest-requires-2 c κs = search needs
+
+three-words-requires : tie.Need-three-words-requires
+three-words-requires c κs = search needs
 
 returns-5 : tie.Need-returns-5
 returns-5 c =
-    let s = c .before .before .before in
-    let r = s .before .before .before .before in
-    let u = r .before .before .before in
-    let e =
-    words-three _ _ (u .before .if1 .left) (u .until .ensures .0)
-    _ _ _ (r .before .before .if2 .left) (r .before .head .ensures) (r .rest .ensures) (s .before .before .before .until2 .ensures .0)
-    _ _ _ (s .before .before .if3 .left) (s .before .head2 .ensures) (s .rest2 .ensures) (c .before .before .until3 .ensures .0)
-    (c .before .if4 .left)
-    in
-    c .three-words .ensures ∙ sym e
+    let r = c .before in
+    let p = r .before in
+    let h = p .before in
+    let f = h .before in
+    let x = f .before in
+    let t = x .before in
+    let w = t .before in
+    let e = w .before in
+    let u = e .before in
+    c .three-words .ensures
+    ∙ sym (three-by _ _ (u .before .if1 .left) (u .until-from .ensures .0) _ (e .if2 .left) (w .until-from2 .ensures .0) _ (t .if3 .left) (x .until-from3 .ensures .0) _ _ _ (h .head2 .ensures) (p .part .ensures) (r .rest2 .ensures) (f .if4 .left))
 
 pub read-spec : {M : Type 1} → statement M
 read-spec =
     tie.close
     (tie.spec
     returns
-    (λ _ _. tt)
-    (λ _ _. tt)
+    until-from-requires
+    one-word-requires
     returns-2
-    (λ c κs. search needs)
-    (λ c κs. search needs)
-    (λ _ _. tt)
-    (λ _ _. tt)
+    add-until-from
+    until-from-requires-2
+    head-requires
+    rest-requires
+    two-words-requires
     returns-3
-    (λ c κs. search needs)
-    (λ c κs. search needs)
-    (λ _ _. tt)
+    add-until-from-2
+    until-from-requires-3
     returns-4
-    (λ _ _. tt)
+    head-requires-2
+    add-part
+    part-requires
+    rest-requires-2
+    three-words-requires
     returns-5)

@@ -1,53 +1,44 @@
-use Rattle.scans.proofs.free_slot.Statement.{statement}
-use Rattle.scans.proofs.free_slot.Tie as tie
+-- By where the lowest Empty slot lies, and whether it is the parked one.
 use native.Mathlib.Omega.{arith}
 use borrow.Author.Needs.{needs}
-use Prim.Native.Nat.{_≤_, _-_}
-use Rattle.scans.proofs.Laws.{Taken, taken-none, taken-more, free-is, free-none, vacant-not, vacant-free, vacant-other, vacant-parked}
-use mathlib.Core.Logic.{⊎-elim}
 use borrow.Author.Tests.{not-true, not-false}
+use Rattle.scans.proofs.Laws.{free-past, free-unparked, free-other, free-behind}
+use Rattle.scans.proofs.free_slot.Statement.{statement}
+use Rattle.scans.proofs.free_slot.Tie as tie
 
-abbrev Inv-loop : tie.InvT-loop
-Inv-loop states n parked at s₀ s = (s ≤ n) × Taken states parked at n s
+empty-from-requires : tie.Need-empty-from-requires
+empty-from-requires c κs = search needs
 
-abbrev μ-loop : tie.MeasureT-loop
-μ-loop states n parked at s₀ s = n - s
+returns : tie.Need-returns
+returns c = let e = c .before .empty-from .ensures in (free-past _ _ _ _ _ e (c .if1 .taken), e .most)
 
-loop-holds : tie.Need-loop-holds Inv-loop μ-loop
-loop-holds c = (omega arith, taken-none _ _ _ _)
+returns-2 : tie.Need-returns-2
+returns-2 c = let e = c .before .before .empty-from .ensures in (free-unparked _ _ _ _ _ e (c .before .if1 .left) (not-true _ (c .if2 .taken)), e .most)
 
-element-copy-out-if1 : tie.Need-element-copy-out-if1 Inv-loop μ-loop
-element-copy-out-if1 c = search needs
+returns-3 : tie.Need-returns-3
+returns-3 c = let e = c .before .before .before .empty-from .ensures in (free-other _ _ _ _ _ e (c .before .before .if1 .left) (c .if3 .taken), e .most)
 
-returns : tie.Need-returns Inv-loop μ-loop
-returns c = let a = c .before .before .before .before .before .args in let s = c .before .before .before .before .loop .s in let l = c .before .before .before .before .loop .inv in (free-is (a .states .now) (a .parked) (a .at) (a .n) s (l .1) (omega arith) (vacant-free (a .states .now) (a .parked) (a .at) (a .n) s (c .before .if1 .taken) (not-true (a .parked) (c .if2 .taken))), l .0)
+add-empty-from : tie.Need-add-empty-from
+add-empty-from c = search needs
 
-returns-2 : tie.Need-returns-2 Inv-loop μ-loop
-returns-2 c = let a = c .before .before .before .before .before .before .args in let s = c .before .before .before .before .before .loop .s in let l = c .before .before .before .before .before .loop .inv in (free-is (a .states .now) (a .parked) (a .at) (a .n) s (l .1) (omega arith) (vacant-other (a .states .now) (a .parked) (a .at) (a .n) s (c .before .before .if1 .taken) (c .if3 .taken)), l .0)
+empty-from-requires-2 : tie.Need-empty-from-requires-2
+empty-from-requires-2 c κs = search needs
 
-add-s : tie.Need-add-s Inv-loop μ-loop
-add-s c = search needs
-
-loop-less : tie.Need-loop-less Inv-loop μ-loop
-loop-less c = search needs
-
-loop-again : tie.Need-loop-again Inv-loop μ-loop
-loop-again c = let a = c .before .before .before .before .args in let s = c .before .before .before .loop .s in let l = c .before .before .before .loop .inv in (omega arith, taken-more (a .states .now) (a .parked) (a .at) (a .n) s (l .1) (omega arith) (⊎-elim (λ w. vacant-parked (a .states .now) (a .parked) (a .at) (a .n) s (w .0 .taken) (not-false (a .parked) (w .1 .left)) (w .2 .left)) (λ w. vacant-not (a .states .now) (a .parked) (a .at) (a .n) s (w .left)) (c .if1 .came)))
-
-returns-3 : tie.Need-returns-3 Inv-loop μ-loop
-returns-3 c = let a = c .before .before .args in let s = c .before .loop .s in let l = c .before .loop .inv in (free-none (a .states .now) (a .parked) (a .at) (a .n) s (l .1) (omega arith), l .0)
+returns-4 : tie.Need-returns-4
+returns-4 c =
+    let d = c .before .before in
+    let e = d .before .before .empty-from .ensures in
+    let r = c .empty-from2 .ensures in
+    (free-behind _ _ _ _ _ e (d .before .if1 .left) _ (not-false _ (d .if2 .left)) (c .before .if3 .left) r, r .most)
 
 pub free-slot-spec : {M : Type 1} → statement M
 free-slot-spec =
     tie.close
     (tie.spec
-    Inv-loop
-    μ-loop
-    loop-holds
-    element-copy-out-if1
+    empty-from-requires
     returns
     returns-2
-    add-s
-    loop-less
-    loop-again
-    returns-3)
+    returns-3
+    add-empty-from
+    empty-from-requires-2
+    returns-4)

@@ -1,12 +1,15 @@
 //! The twin of the program `cases`: the same groups on the customer's Rust. Lines that begin with `ours` are of refusals that
-//! the Rust does not have; they are written here from document 01's rules, independently of the Rattle code. So is the script
-//! program, which the lines that begin with `script` are outputs of.
+//! the Rust does not have; they come from document 01's rules, as `oracle::guarded` and `oracle::plain` read them, independently of
+//! the Rattle code. So does the script program, which the lines that begin with `script` are outputs of.
 
 mod script;
 mod table;
 
-use oracle::irqwait::{ArmError, WaitTable};
+use oracle::for_size;
+use oracle::guarded::{self, Refusal};
+use oracle::irqwait::WaitTable;
 use oracle::parktime::Table;
+use oracle::plain::{self, Id, WAKE_SIZES, listed};
 use oracle::runqueue::{RunQueue, TaskId};
 use oracle::wake::WakeQueue;
 
@@ -22,6 +25,27 @@ fn id(t: TaskId) -> String {
 
 fn maybe(t: Option<TaskId>) -> String {
     t.map_or("-".into(), id)
+}
+
+/// What a call answers, or a mark and the number of its refusal.
+fn said<T, E: Into<Refusal>>(answer: Result<T, E>, shown: impl FnOnce(T) -> String) -> String {
+    answer.map_or_else(|e| format!("!{}", e.into().0), shown)
+}
+
+fn done(answer: Result<(), impl Into<Refusal>>) -> String {
+    said(answer, |()| "ok".into())
+}
+
+/// A maker's answer: 2 unless the size is listed.
+fn made(l: &mut Line, listed: bool) {
+    word(l, if listed { "ok" } else { "!2" });
+}
+
+/// The answer of each of so many calls on a table that is not sound.
+fn unsound(l: &mut Line, calls: usize) {
+    for _ in 0..calls {
+        word(l, "!1");
+    }
 }
 
 // ---- ids and the ring
@@ -42,22 +66,31 @@ fn packing() -> Line {
     l
 }
 
+#[derive(Clone)]
 struct Ring<const N: usize>(RunQueue<N>);
 
 impl<const N: usize> Ring<N> {
+    /// A ring that starts at a place and holds so many zeros.
+    fn zeros(head: usize, len: usize) -> Self {
+        let zero = TaskId::from_raw(0);
+        let mut q = RunQueue::new();
+        for _ in 0..head {
+            q.enqueue(zero).unwrap();
+            q.dequeue();
+        }
+        for _ in 0..len {
+            q.enqueue(zero).unwrap();
+        }
+        Ring(q)
+    }
     fn put(&mut self, l: &mut Line, s: u16, e: u16) {
-        let r = self.0.enqueue(TaskId::new(s, e));
-        word(l, if r.is_ok() { "ok" } else { "!11" });
+        word(l, done(self.0.enqueue(TaskId::new(s, e))));
     }
     fn take(&mut self, l: &mut Line) {
-        let r = self.0.dequeue();
-        word(l, maybe(r));
+        word(l, maybe(self.0.dequeue()));
     }
     fn onward(&mut self, l: &mut Line, who: Option<(u16, u16)>) {
-        match self.0.after_yield(who.map(|(s, e)| TaskId::new(s, e))) {
-            Ok(r) => word(l, maybe(r)),
-            Err(_) => word(l, "!11"),
-        }
+        word(l, said(self.0.after_yield(who.map(|(s, e)| TaskId::new(s, e))), maybe));
     }
     fn tests(&self, l: &mut Line) {
         word(l, self.0.capacity());
@@ -135,31 +168,41 @@ fn of_64() -> Line {
     l
 }
 
-/// Document 01: 2 unless N is 1 to 64; what we hand back beside it is an empty ring of one place.
+/// Beside 2 we hand back an empty ring of one place.
 fn ring_sizes() -> Line {
     let mut l = Line::from("ours ring sizes");
-    for n in [0, 1, 64, 65, u64::MAX] {
-        let fine = (1..=64).contains(&n);
-        word(&mut l, if fine { "ok" } else { "!2" });
-        let made = if fine { n } else { 1 };
-        word(&mut l, format!("{made} 0 true false -"));
+    for n in [0, 1, 64, 65, usize::MAX] {
+        made(&mut l, listed(n));
+        for_size!(if listed(n) { n } else { 1 }, N => Ring::<N>(RunQueue::new()).tests(&mut l));
     }
     l
 }
 
-/// Document 01: 1 unless N is listed, head below N and length at most N; the ring comes back as it was.
+/// The reads of a ring, and each call that changes it with what it leaves of n, head and length.
+fn ring_calls<const N: usize>(l: &mut Line, q: Ring<N>) {
+    let numbers = |l: &mut Line, q: Ring<N>| word(l, format!("{N} {} {}", q.0.head(), q.0.len()));
+    q.tests(l);
+    q.at(l, 0);
+    let mut a = q.clone();
+    a.put(l, 1, 1);
+    numbers(l, a);
+    let mut b = q.clone();
+    b.take(l);
+    numbers(l, b);
+    let mut c = q;
+    c.onward(l, Some((2, 2)));
+    numbers(l, c);
+}
+
 fn ring_damaged() -> Line {
     let mut l = Line::from("ours ring damaged");
-    for (n, head, len) in [(0, 0, 0), (65, 0, 0), (4, 4, 0), (4, 3, 5), (4, 3, 4), (u64::MAX, u64::MAX, u64::MAX)] {
-        let sound = (1..=64).contains(&n) && head < n && len <= n;
+    for (n, head, len) in [(0, 0, 0), (65, 0, 0), (4, 4, 0), (4, 3, 5), (4, 3, 4), (usize::MAX, usize::MAX, usize::MAX)] {
+        let sound = plain::ring_sound(n, head, len);
         word(&mut l, sound);
         if sound {
-            // a full ring of four zeros: capacity, length, tests, front, entry 0; Full; a task taken; Full
-            word(&mut l, "4 4 false true 0/0 0/0 !11 4 3 4 0/0 4 0 3 !11 4 3 4");
+            for_size!(n, N => ring_calls(&mut l, Ring::<N>::zeros(head, len)));
         } else {
-            for _ in 0..6 {
-                word(&mut l, "!1");
-            }
+            unsound(&mut l, 6);
             for _ in 0..3 {
                 word(&mut l, format!("!1 {n} {head} {len}"));
             }
@@ -214,27 +257,53 @@ fn wake_drops() -> Line {
     l
 }
 
-/// Document 01: 2 unless C is 2, 4, 8, 16, 32 or 64; what we hand back beside it is an empty queue of two places.
+/// Beside 2 we hand back an empty queue of two places.
 fn wake_sizes() -> Line {
     let mut l = Line::from("ours wake sizes");
-    for c in [0, 1, 2, 3, 4, 5, 7, 8, 9, 15, 16, 17, 31, 32, 33, 63, 64, 65, 128, u64::MAX] {
-        word(&mut l, if [2, 4, 8, 16, 32, 64].contains(&c) { "ok" } else { "!2" });
+    for c in [0, 1, 2, 3, 4, 5, 7, 8, 9, 15, 16, 17, 31, 32, 33, 63, 64, 65, 128, usize::MAX] {
+        made(&mut l, WAKE_SIZES.contains(&c));
     }
-    word(&mut l, "2 true");
+    const LEAST: usize = WAKE_SIZES[0];
+    word(&mut l, LEAST);
+    word(&mut l, WakeQueue::<LEAST>::new().is_empty());
     l
 }
 
-/// Document 01: 1 unless C is listed and both indexes are below C; the queue comes back as it was.
+/// The reads of an empty queue with both indexes at a place, and each call that changes it with what it leaves of it.
+fn wake_calls<const C: usize>(l: &mut Line, at: usize, drops: u32) {
+    let mut q = WakeQueue::<C>::new();
+    q.set_drops(drops);
+    for _ in 0..at {
+        q.push(0);
+        q.pop();
+    }
+    let numbers = |l: &mut Line, q: &mut WakeQueue<C>| {
+        let (_, head, tail) = q.places();
+        word(l, format!("{C} {head} {tail} {}", q.drops()));
+    };
+    word(l, q.drops());
+    word(l, q.is_empty());
+    let mut a = q.copy();
+    word(l, a.push(1));
+    numbers(l, &mut a);
+    word(l, popped(q.pop()));
+    numbers(l, &mut q);
+}
+
 fn wake_damaged() -> Line {
     let mut l = Line::from("ours wake damaged");
-    for (c, head, tail) in [(3, 0, 0), (0, 0, 0), (4, 4, 0), (4, 0, 4), (4, 3, 3), (u64::MAX, 0, 0)] {
-        let sound = [2, 4, 8, 16, 32, 64].contains(&c) && head < c && tail < c;
+    let drops = 9;
+    for (c, head, tail) in [(3, 0, 0), (0, 0, 0), (4, 4, 0), (4, 0, 4), (4, 3, 3), (usize::MAX, 0, 0)] {
+        let sound = plain::wakes_sound(c, head, tail);
         word(&mut l, sound);
         if sound {
-            // empty, its indexes at 3: a push goes round to 0, a pop finds nothing
-            word(&mut l, "9 true true 4 0 3 9 - 4 3 3 9");
+            assert!(c == 4 && head == tail, "the one sound queue here is empty and has four places");
+            wake_calls::<4>(&mut l, head, drops);
         } else {
-            word(&mut l, format!("!1 !1 !1 {c} {head} {tail} 9 !1 {c} {head} {tail} 9"));
+            unsound(&mut l, 2);
+            for _ in 0..2 {
+                word(&mut l, format!("!1 {c} {head} {tail} {drops}"));
+            }
         }
     }
     l
@@ -249,14 +318,8 @@ impl Waits {
         Self(WaitTable::new(), name.into())
     }
     fn arm(&mut self, c: u32, s: u16, e: u16) {
-        let w = match self.0.arm(c, TaskId::new(s, e)) {
-            Ok(()) => "ok",
-            Err(ArmError::BadTask) => "!8",
-            Err(ArmError::CookieBusy) => "!9",
-            Err(ArmError::TaskBusy) => "!10",
-            Err(ArmError::Full) => "!11",
-        };
-        word(&mut self.1, w);
+        let r = self.0.arm(c, TaskId::new(s, e));
+        word(&mut self.1, done(r));
     }
     fn disarm(&mut self, s: u16, e: u16) {
         self.0.disarm_task(TaskId::new(s, e));
@@ -339,18 +402,29 @@ fn wait_marks() -> Line {
     t.1
 }
 
-/// Document 01: 1 unless live cookies are distinct, live ids distinct with slot below 64, each mark under its own slot. Each of
-/// these four tables breaks one of them, and comes back as it was.
+/// Each of these four tables breaks one clause: every call answers 1, and entries 0 and 1 and mark 5 come back as they were.
 fn wait_damaged() -> Line {
     let mut l = Line::from("ours wait damaged");
-    let none = "false 0 0/0";
-    for (first, second, mark) in [
-        ("true 7 2/0", "true 7 3/0", "false 0/0"),
-        ("true 7 2/0", "true 8 2/0", "false 0/0"),
-        ("true 7 2/0", "true 8 64/0", "false 0/0"),
-        (none, none, "true 6/0"),
+    for (entries, mark) in [
+        ([Some((7, (2, 0))), Some((7, (3, 0)))], None),
+        ([Some((7, (2, 0))), Some((8, (2, 0)))], None),
+        ([Some((7, (2, 0))), Some((8, (64, 0)))], None),
+        ([None, None], Some((6, 0))),
     ] {
-        word(&mut l, format!("false !1 !1 !1 !1 !1 {first} {second} {mark}"));
+        let live: Vec<(u32, Id)> = entries.into_iter().flatten().collect();
+        let mut marks = [None; 64];
+        marks[5] = mark;
+        let sound = plain::waits_sound(&live, &marks);
+        assert!(!sound, "{entries:?} {mark:?} is sound");
+        word(&mut l, sound);
+        unsound(&mut l, 5);
+        // what is absent holds zeros, as in a table just made
+        let written = |(slot, epoch): Id| id(TaskId::new(slot, epoch));
+        for entry in entries {
+            let (cookie, task) = entry.unwrap_or_default();
+            word(&mut l, format!("{} {cookie} {}", entry.is_some(), written(task)));
+        }
+        word(&mut l, format!("{} {}", mark.is_some(), written(mark.unwrap_or_default())));
     }
     l
 }
@@ -365,19 +439,30 @@ impl Parks {
     }
     fn arm(&mut self, s: u16, e: u16, d: u64) {
         let r = self.0.arm(TaskId::new(s, e), d);
-        word(&mut self.1, if r.is_ok() { "ok" } else { "!11" });
+        word(&mut self.1, done(r));
     }
     fn disarm(&mut self, s: u16, e: u16) {
         self.0.disarm(TaskId::new(s, e));
         word(&mut self.1, "ok");
     }
+    /// A poll with an output of so many places, each of them [`BEFORE`] until it is written to.
+    fn polled<const PLACES: usize>(&mut self, now: u64) -> [u32; PLACES] {
+        let mut out = [BEFORE; PLACES];
+        let r = guarded::poll(&mut self.0, now, &mut out);
+        word(&mut self.1, said(r, |n| n.to_string()));
+        out
+    }
     fn poll(&mut self, now: u64) {
-        let mut out = [TaskId::from_raw(9); 16];
-        let n = self.0.poll(now, &mut out);
-        word(&mut self.1, n);
-        for t in &out[..3] {
-            word(&mut self.1, id(*t));
-        }
+        let out = self.polled::<17>(now);
+        ids(&mut self.1, &out[..3]);
+    }
+}
+
+const BEFORE: u32 = 9;
+
+fn ids(l: &mut Line, raw: &[u32]) {
+    for &raw in raw {
+        word(l, id(TaskId::from_raw(raw)));
     }
 }
 
@@ -422,15 +507,34 @@ fn park_full() -> Line {
     t.1
 }
 
-/// Document 01: 7 for under 16 places, nothing written; else the raw id at place 0 and the later places as they were.
+/// Outputs of 15, 16 and 17 places: a few of their places after the poll.
 fn park_outputs() -> Line {
-    let raw = TaskId::new(6, 1).to_raw();
-    format!("ours park outputs ok !7 9 9 1 {raw} 9 9 ok 1 6/2 9/0 9/0")
+    let mut t = Parks::new("ours park outputs");
+    t.arm(6, 1, 100);
+    let out = t.polled::<15>(100);
+    word(&mut t.1, format!("{} {}", out[0], out[14]));
+    let out = t.polled::<16>(100);
+    word(&mut t.1, format!("{} {} {}", out[0], out[1], out[15]));
+    t.arm(6, 2, 100);
+    t.poll(100);
+    t.1
 }
 
-/// Document 01: 1 unless live ids are distinct; entries and outputs come back as they were.
+/// A task with two deadlines: arm, disarm and two polls answer 1, and outputs and entries come back as they were.
 fn park_damaged() -> Line {
-    "ours park damaged false !1 !1 !1 9/0 9/0 9/0 !1 9 9 4/4 10 4/4 11".into()
+    let mut l = Line::from("ours park damaged");
+    let entries = [((4, 4), 10), ((4, 4), 11)];
+    let sound = plain::deadlines_sound(&entries.map(|(task, _)| task));
+    assert!(!sound, "{entries:?} is sound");
+    word(&mut l, sound);
+    unsound(&mut l, 3);
+    ids(&mut l, &[BEFORE; 3]);
+    unsound(&mut l, 1);
+    word(&mut l, format!("{BEFORE} {BEFORE}"));
+    for ((slot, epoch), deadline) in entries {
+        word(&mut l, format!("{} {deadline}", id(TaskId::new(slot, epoch))));
+    }
+    l
 }
 
 fn main() {

@@ -1,11 +1,13 @@
 //! The lines about the task table and lifecycle. The scripts are read out of the program's own source, so that both run the
 //! same calls; what answers them here is the customer's Rust behind document 01's refusals.
 
-use crate::{Line, maybe, word};
+use crate::{Line, made, maybe, said, unsound, word};
+use oracle::for_size;
+use oracle::guarded::{Guarded, KINDS, Refusal};
 use oracle::lifecycle;
-use oracle::plain::{Plain, READY, RUNNING};
+use oracle::plain::{Plain, READY, RUNNING, listed};
 use oracle::runqueue::TaskId;
-use oracle::tasks::{Decision, State, Switch, Tasks};
+use oracle::tasks::{Decision, State};
 
 const TABLE: &str = include_str!("../../../../crates/table_cases/src/table.rt");
 const DAMAGE: &str = include_str!("../../../../crates/table_cases/src/damage.rt");
@@ -40,11 +42,11 @@ pub fn bytes(arg: &str) -> &str {
     arg.strip_prefix('b').unwrap()
 }
 
-/// The customer's table behind document 01's refusals.
-struct Guarded<const N: usize> {
-    tasks: Tasks<N>,
-    started: bool,
-    /// whether a refusal kept a call from the Rust
+/// The customer's table behind document 01's refusals, on which a script runs.
+#[derive(Default)]
+struct Scripted<const N: usize> {
+    table: Guarded<N>,
+    /// whether a refusal that the Rust does not have showed, or D1
     ours: bool,
 }
 
@@ -61,101 +63,79 @@ fn opt(o: Option<impl std::fmt::Display>) -> String {
     o.map_or("-".into(), |x| x.to_string())
 }
 
-impl<const N: usize> Guarded<N> {
-    fn new() -> Self {
-        Guarded { tasks: Tasks::new(), started: false, ours: false }
+fn decided(d: Decision) -> String {
+    match d {
+        Decision::Stay => "stay".into(),
+        Decision::Switch { from, to, release } => format!("{} {} {}", maybe(Some(from)), maybe(Some(to)), maybe(release)),
     }
+}
 
-    fn refuse(&mut self, n: u8) -> String {
-        self.ours = true;
-        format!("!{n}")
-    }
-
-    fn switch(&mut self, cpu: u8, kind: u8) -> String {
-        if cpu == 1 && !self.tasks.cpu1_started() {
-            return self.refuse(6);
-        }
-        let kind = [Switch::Yield, Switch::Preempt, Switch::Block, Switch::Exit][kind.min(3) as usize];
-        match self.tasks.switch_on(cpu, kind) {
-            Decision::Stay => "stay".into(),
-            Decision::Switch { from, to, release } => {
-                format!("{} {} {}", maybe(Some(from)), maybe(Some(to)), maybe(release))
-            }
-        }
-    }
-
-    fn call(&mut self, op: u8, a: u8, b: u8, c: u8) -> Option<String> {
+impl<const N: usize> Scripted<N> {
+    fn answer(&mut self, op: u8, a: u8, b: u8, c: u8) -> Result<String, Refusal> {
         let id = TaskId::new(a as u16, b as u16);
-        if b"SaAxwmtkc".contains(&op) && !self.started {
-            return Some(self.refuse(3));
-        }
-        if b"Cir".contains(&op) && a > 1 {
-            return Some(self.refuse(5));
-        }
-        Some(match op {
-            b's' if self.started => self.refuse(4),
+        let kind = |k: u8| KINDS[k.min(3) as usize];
+        let g = &mut self.table;
+        Ok(match op {
             b's' => {
-                self.tasks.start();
-                self.started = true;
+                g.start()?;
                 "ok".into()
             }
-            b'S' => maybe(self.tasks.start_cpu1()),
-            b'a' => maybe(self.tasks.admit_on(a)),
-            b'A' => maybe(self.tasks.admit()),
-            b'x' => self.switch(a, b),
-            b'w' => self.switch(0, a),
-            b'm' => self.tasks.set_stealeable(id, c == 1).to_string(),
-            b't' => self.tasks.try_steal_into(a).to_string(),
-            b'k' => self.tasks.wake(id).to_string(),
-            b'c' => maybe(self.tasks.collect()),
-            b'C' => maybe(Some(self.tasks.current_on(a))),
-            b'u' => maybe(Some(self.tasks.current())),
-            b'i' => maybe(Some(self.tasks.idle_of(a))),
-            b'r' => self.tasks.has_ready_on(a).to_string(),
-            b'v' => self.tasks.has_ready().to_string(),
-            b'1' => self.tasks.cpu1_started().to_string(),
-            b'j' => self.tasks.can_steal_into(a).to_string(),
-            b'l' => maybe(self.tasks.live_id(a as usize)),
-            b'T' => opt(self.tasks.state(id).map(state)),
-            b'h' => opt(self.tasks.home_of(id)),
-            b'e' => self.tasks.is_stealeable(id).to_string(),
-            b'o' => self.tasks.overwrites().to_string(),
-            b'B' => self.tasks.blocked_count().to_string(),
-            b'E' => self.tasks.block_events().to_string(),
-            b'n' => self.tasks.live_count().to_string(),
-            b'P' => self.tasks.peak_slots().to_string(),
+            b'S' => maybe(g.change()?.start_cpu1()),
+            b'a' => maybe(g.change()?.admit_on(a)),
+            b'A' => maybe(g.change()?.admit()),
+            b'x' => decided(g.switch_on(a, kind(b))?),
+            b'w' => decided(g.change()?.switch(kind(a))),
+            b'm' => g.change()?.set_stealeable(id, c == 1).to_string(),
+            b't' => g.change()?.try_steal_into(a).to_string(),
+            b'k' => g.change()?.wake(id).to_string(),
+            b'c' => maybe(g.change()?.collect()),
+            b'C' => maybe(Some(g.of_cpu(a)?.current_on(a))),
+            b'u' => maybe(Some(g.tasks.current())),
+            b'i' => maybe(Some(g.of_cpu(a)?.idle_of(a))),
+            b'r' => g.of_cpu(a)?.has_ready_on(a).to_string(),
+            b'v' => g.tasks.has_ready().to_string(),
+            b'1' => g.tasks.cpu1_started().to_string(),
+            b'j' => g.tasks.can_steal_into(a).to_string(),
+            b'l' => maybe(g.tasks.live_id(a as usize)),
+            b'T' => opt(g.tasks.state(id).map(state)),
+            b'h' => opt(g.tasks.home_of(id)),
+            b'e' => g.tasks.is_stealeable(id).to_string(),
+            b'o' => g.tasks.overwrites().to_string(),
+            b'B' => g.tasks.blocked_count().to_string(),
+            b'E' => g.tasks.block_events().to_string(),
+            b'n' => g.tasks.live_count().to_string(),
+            b'P' => g.tasks.peak_slots().to_string(),
             b'q' => {
-                let q: Vec<String> = self.tasks.queue(a as usize).into_iter().map(|t| maybe(Some(t))).collect();
+                let q: Vec<String> = g.tasks.queue(a as usize).into_iter().map(|t| maybe(Some(t))).collect();
                 if q.is_empty() { "[ ]".into() } else { format!("[ {} ]", q.join(" ")) }
             }
-            // D1: a start of CPU 1 clears the mark of its slot, which the Rust keeps
             b'M' => {
-                let mut marks = self.tasks.marks();
-                if self.tasks.cpu1_started() {
-                    marks[self.tasks.idle_of(1).slot()] = false;
-                    self.ours = true;
-                }
-                marks.map(|b| b.to_string()).join(" ")
+                self.ours |= g.shows_d1();
+                g.marks_but_d1().map(|b| b.to_string()).join(" ")
             }
-            _ => return None,
+            _ => panic!("no call {op}"),
         })
+    }
+
+    fn call(&mut self, op: u8, a: u8, b: u8, c: u8) -> String {
+        let answer = self.answer(op, a, b, c);
+        self.ours |= answer.is_err();
+        said(answer, |a| a)
     }
 
     fn run(&mut self, l: &mut Line, script: &str) {
         for op in script.as_bytes().chunks_exact(4) {
             let d: Vec<u8> = op[1..].iter().map(|b| b.saturating_sub(48)).collect();
-            if let Some(answer) = self.call(op[0], d[0], d[1], d[2]) {
-                word(l, answer);
-            }
+            word(l, self.call(op[0], d[0], d[1], d[2]));
         }
     }
 }
 
 fn line_of<const N: usize>(name: &str, script: &str) -> Line {
     let mut l = Line::from(name);
-    let mut g = Guarded::<N>::new();
-    g.run(&mut l, script);
-    assert_eq!(name.starts_with("ours"), g.ours, "{name}: a line is ours just when a refusal or D1 shows in it");
+    let mut t = Scripted::<N>::default();
+    t.run(&mut l, script);
+    assert_eq!(name.starts_with("ours"), t.ours, "{name}: a line is ours just when a refusal or D1 shows in it");
     l
 }
 
@@ -165,14 +145,7 @@ fn scripts() -> Vec<Line> {
     all.iter()
         .map(|(_, args)| {
             let (name, script) = (bytes(&args[0]), bytes(&args[2]));
-            match args[1].as_str() {
-                "1" => line_of::<1>(name, script),
-                "2" => line_of::<2>(name, script),
-                "3" => line_of::<3>(name, script),
-                "4" => line_of::<4>(name, script),
-                "8" => line_of::<8>(name, script),
-                n => panic!("a script for N = {n}"),
-            }
+            for_size!(args[1].parse().unwrap(), N => line_of::<N>(name, script))
         })
         .collect()
 }
@@ -183,12 +156,12 @@ fn own_script(source: &str, function: &str, n: usize) -> String {
     source[from..].split("b\"").nth(n + 2).unwrap().split('"').next().unwrap().into()
 }
 
+/// Beside 2 we hand back a table of one slot.
 fn sizes() -> Line {
     let mut l = Line::from("ours table sizes");
     for n in [0usize, 1, 64, 65, usize::MAX] {
-        let fine = (1..=64).contains(&n);
-        word(&mut l, if fine { "ok" } else { "!2" });
-        word(&mut l, if fine { n } else { 1 });
+        made(&mut l, listed(n));
+        word(&mut l, if listed(n) { n } else { 1 });
     }
     l
 }
@@ -197,13 +170,13 @@ fn sizes() -> Line {
 fn cpus() -> Line {
     let script = own_script(TABLE, "cpus", 0);
     let mut l = Line::from("ours table cpus");
-    Guarded::<8>::new().run(&mut l, &script);
+    Scripted::<8>::default().run(&mut l, &script);
     let asked = [(b'C', "!5"), (b'i', "!5"), (b'r', "!5"), (b'a', "-"), (b'x', "stay")];
     for (op, answer) in asked {
         let same = (0..=255u8).filter(|&c| {
-            let mut g = Guarded::<8>::new();
-            g.run(&mut Line::new(), &script);
-            g.call(op, c, 3, 0).unwrap() == answer
+            let mut t = Scripted::<8>::default();
+            t.run(&mut Line::new(), &script);
+            t.call(op, c, 3, 0) == answer
         });
         word(&mut l, same.count());
     }
@@ -212,12 +185,12 @@ fn cpus() -> Line {
 
 fn epochs() -> Line {
     let mut l = Line::from("table epochs");
-    let mut g = Guarded::<2>::new();
-    g.run(&mut l, &own_script(TABLE, "epochs", 0));
+    let mut t = Scripted::<2>::default();
+    t.run(&mut l, &own_script(TABLE, "epochs", 0));
     for _ in 0..65534 {
-        g.run(&mut Line::new(), "A000w000w300c000");
+        t.run(&mut Line::new(), "A000w000w300c000");
     }
-    g.run(&mut l, &own_script(TABLE, "epochs", 1));
+    t.run(&mut l, &own_script(TABLE, "epochs", 1));
     l
 }
 
@@ -264,7 +237,7 @@ fn set(t: &Plain, what: u8, at: usize, v: u8) -> Plain {
     u
 }
 
-/// 26 calls, and each answers 1.
+/// On each damaged table there are 26 calls.
 fn damaged() -> Vec<Line> {
     let mut rows = calls(DAMAGE, "line");
     let unseen = calls(DAMAGE, "unseen");
@@ -288,7 +261,9 @@ fn damaged() -> Vec<Line> {
                 return format!("ours table untouched, {} {sound}", bytes(&args[0]));
             }
             assert!(!sound, "{args:?}: the table is sound");
-            format!("ours table damaged, {} {sound}{}", bytes(&args[0]), " !1".repeat(26))
+            let mut l = format!("ours table damaged, {} {sound}", bytes(&args[0]));
+            unsound(&mut l, 26);
+            l
         })
         .collect()
 }
@@ -297,16 +272,22 @@ fn life() -> Line {
     let mut l = Line::from("life");
     for s in [None, Some(State::Empty), Some(State::Ready), Some(State::Running), Some(State::Blocked)] {
         for idle in [false, true] {
-            word(&mut l, match lifecycle::reap(idle, s) {
-                lifecycle::ReapVerdict::Refuse(e) => format!("{e:?}"),
-                v => format!("{v:?}"),
-            });
+            word(
+                &mut l,
+                match lifecycle::reap(idle, s) {
+                    lifecycle::ReapVerdict::Refuse(e) => format!("{e:?}"),
+                    v => format!("{v:?}"),
+                },
+            );
         }
         for idle in [false, true] {
-            word(&mut l, match lifecycle::force(idle, s) {
-                lifecycle::ForceVerdict::Refuse(e) => format!("{e:?}"),
-                v => format!("{v:?}"),
-            });
+            word(
+                &mut l,
+                match lifecycle::force(idle, s) {
+                    lifecycle::ForceVerdict::Refuse(e) => format!("{e:?}"),
+                    v => format!("{v:?}"),
+                },
+            );
         }
         word(&mut l, format!("{:?}", lifecycle::cancel(s)));
     }
@@ -319,7 +300,7 @@ pub fn lines() -> Vec<Line> {
     all.push(cpus());
     all.push(epochs());
     let mut l = Line::from("table busy");
-    Guarded::<8>::new().run(&mut l, &own_script(DAMAGE, "busy", 0));
+    Scripted::<8>::default().run(&mut l, &own_script(DAMAGE, "busy", 0));
     all.push(l);
     all.extend(damaged());
     all.push(life());
