@@ -94,8 +94,9 @@ fn place(rng: &mut Rng, n: usize) -> usize {
 fn damage_tasks(rng: &mut Rng, t: &mut Tasks) {
     let n = t.n;
     let cpu = rng.below(2);
-    match rng.below(18) {
+    match rng.below(20) {
         0 => twisted!(rng, t.n, usize),
+        1 if rng.one_in(3) => t.heads[cpu] = n,
         1 => twisted!(rng, t.heads[cpu], usize),
         2 => twisted!(rng, t.lens[cpu], usize),
         3 => twist_id(rng, &mut t.currents[cpu]),
@@ -122,9 +123,19 @@ fn damage_tasks(rng: &mut Rng, t: &mut Tasks) {
             let (a, b) = (place(rng, n), place(rng, n));
             if rng.one_in(2) { t.states.swap(a, b) } else { t.ring_slots.swap(cpu * 64 + a, cpu * 64 + b) }
         }
-        _ => {
+        17 => {
             let at = place(rng, n);
             (t.states[at], t.homes[at]) = (rng.below(4) as u8, rng.below(2) as u8);
+        }
+        _ => {
+            // an id that stands alone becomes another that would do there, but for one clause
+            let at = place(rng, n);
+            let known = TaskId { slot: at as u16, epoch: t.epochs[at] };
+            match rng.below(3) {
+                0 => t.currents[cpu] = known,
+                1 => (t.idles[cpu], t.homes[at], t.marks[at]) = (known, cpu as u8, false),
+                _ => t.parked_id = TaskId { epoch: known.epoch.wrapping_sub(1), ..known },
+            }
         }
     }
 }
@@ -214,6 +225,12 @@ fn small_tasks(rng: &mut Rng) -> Tasks {
     t.parked = rng.one_in(8);
     t.peak = t.n as u32;
     t
+}
+
+/// A table just made; where its rings start does not count.
+fn fresh_tasks(rng: &mut Rng) -> Tasks {
+    let n = 1 + rng.below(64);
+    Tasks { heads: [rng.below(n), rng.below(n)], ..bredumalt::tasks::new(n).tasks }
 }
 
 fn task_calls(rng: &mut Rng, t: &Tasks) -> Vec<tasks::Call> {
@@ -528,6 +545,7 @@ fn main() {
             let mut t = match source {
                 0..3 => *walked_tasks.on(rng).ours(),
                 3 => fitted_tasks(rng),
+                4 if rng.one_in(4) => fresh_tasks(rng),
                 4 => small_tasks(rng),
                 _ if rng.one_in(2) => any_tasks(rng),
                 _ => fitted_tasks(rng),
