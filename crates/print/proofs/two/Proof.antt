@@ -1,5 +1,5 @@
 -- Two stores, the second behind the first.
-use Prim.Native.Nat.{_+_, _/_, _<_}
+use Prim.Native.Nat.{_+_, _<_}
 use native.Mathlib.Omega.{arith}
 use borrow.Author.Needs.{needs}
 use lib.ListN.{length}
@@ -28,7 +28,7 @@ add-out-2 c = search needs
 slice-write-out-2 : tie.Need-slice-write-out-2
 slice-write-out-2 c =
     let room : c .args .at + 1 < length (c .args .out .now) = omega (arith, c .pre .1) in
-    behind-store (c .args .out .now) (c .args .at) (48 + c .args .n / 10) _ room
+    behind-store (c .args .out .now) (c .args .at) _ _ room
 
 add-result : tie.Need-add-result
 add-result c = search needs
@@ -38,7 +38,7 @@ same-length c = search needs
 
 returns : tie.Need-returns
 returns c =
-    let tens = stored (c .args .out .now) (c .args .at) (48 + c .args .n / 10) (omega (arith, c .pre .1)) in
+    let tens = stored (c .args .out .now) (c .args .at) _ (omega (arith, c .pre .1)) in
     then-byte _ tens (omega (arith, c .pre .1, tens .size))
 
 pub two-spec : {M : Type 1} → statement M
