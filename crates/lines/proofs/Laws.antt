@@ -68,24 +68,24 @@ many a b c (p ∷ ps) h = refl
 
 -- l's first space stands at a
 module _ (l : List ℕ) (a : ℕ) (short : length l ≤ LONGEST) (ea : a ≡ upTo SPACE l) where
-  pub words-one : length l ≤ a → readLine l ≡ oneWord l
+  words-one : length l ≤ a → readLine l ≡ oneWord l
   unfolding readLine readWords
   words-one h = rw (le-ltb _ _ short, split-one SPACE a l ea h)
 
   -- v stands before it and m after it, with its own first space at b
   module _ (v m : List ℕ) (b : ℕ) (la : a < length l) (ev : v ≡ take a l) (em : m ≡ drop (a + 1) l) (eb : b ≡ upTo SPACE m) where
-    pub words-two : length m ≤ b → readLine l ≡ twoWords v m
+    words-two : length m ≤ b → readLine l ≡ twoWords v m
     unfolding readLine readWords
     words-two h = rw (le-ltb _ _ short, split-cons SPACE a l ea v m la ev em, split-one SPACE b m eb h)
 
     -- and once more
     module _ (w n : List ℕ) (c : ℕ) (lb : b < length m) (ew : w ≡ take b m) (en : n ≡ drop (b + 1) m) (ec : c ≡ upTo SPACE n) where
-      pub words-three : length n ≤ c → readLine l ≡ threeWords v w n
+      words-three : length n ≤ c → readLine l ≡ threeWords v w n
       unfolding readLine readWords
       words-three h =
           rw (le-ltb _ _ short, split-cons SPACE a l ea v m la ev em, split-cons SPACE b m eb w n lb ew en, split-one SPACE c n ec h)
 
-      pub words-more : c < length n → unreadable ≡ readLine l
+      words-more : c < length n → unreadable ≡ readLine l
       unfolding readLine
       words-more h =
           sym (rw (le-ltb _ _ short, split-cons SPACE a l ea v m la ev em, split-cons SPACE b m eb w n lb ew en, split-cons SPACE c n ec _ _ h refl refl)

@@ -11,7 +11,6 @@ use lib.Dec.{eqb}
 use borrow.Author.Tests.{eq-eqb, ne-eqb, eqb-true}
 use Rattle.lists.specs.Search.{countOf, one-if}
 use Rattle.lists.proofs.Basics.{both-true}
-use Rattle.lists.proofs.SearchLaws.{count-most}
 use Rattle.ids.specs.declared.TaskId.{TaskId}
 use Rattle.model.specs.Model.{Model, CPUS, EMPTY, READY, stateOf, epochOf, homeOf, queueOf, currentOf, startedOn, occupied, withState, fresh}
 use Rattle.model.specs.Sound.{occ, Known, AllKnown, readyOn, Shape, Live}
@@ -204,10 +203,7 @@ module _ {A : Type 0} (p : A → Bool) where
   count-none zero a h = refl
   count-none (suc n) a h = rw h (count-none n a h)
 
--- occupied slots: at most all, and by how many they change with one state
-pub occupied-most : (m : Model) → Shape m → occupied m ≤ m .n
-occupied-most m s = omega (arith, count-most (λ v. not (eqb v EMPTY)) (m .states), s .states)
-
+-- by how many the occupied slots change with one state
 pub occupied-set : (m : Model) → Shape m → (i v : ℕ) → i < m .n
     → occupied (withState m i v) + one-if (not (eqb (stateOf m i) EMPTY)) ≡ occupied m + one-if (not (eqb v EMPTY))
 occupied-set m s i v h = count-set (λ v. not (eqb v EMPTY)) (m .states) i v EMPTY (omega (arith, s .states))

@@ -96,13 +96,13 @@ module _ (states : List ℕ) (from : ℕ) where
 
 module _ (states : List ℕ) (parked : Bool) (at n : ℕ) where
   -- none of the first s slots is free
-  pub Taken : ℕ → Type 0
+  Taken : ℕ → Type 0
   Taken s = Passed (vacantIn states parked at) (tab n (λ s. s)) s
 
   long : length (tab n (λ s. s)) ≡ n
   long = length-tab n (λ s. s)
 
-  pub taken-none : Taken 0
+  taken-none : Taken 0
   unfolding Taken
   taken-none = passed-none (vacantIn states parked at) (tab n (λ s. s))
 
@@ -110,34 +110,34 @@ module _ (states : List ℕ) (parked : Bool) (at n : ℕ) where
     is-s : getD (tab n (λ s. s)) s 0 ≡ s
     is-s = getD-tab n (λ s. s) s 0 h
 
-    pub taken-more : vacantIn states parked at s ≡ false → Taken (s + 1)
+    taken-more : vacantIn states parked at s ≡ false → Taken (s + 1)
     unfolding Taken
     taken-more e = passed-more (vacantIn states parked at) (tab n (λ s. s)) s 0 p (omega (arith, long)) (ap (vacantIn states parked at) is-s ∙ e)
 
-    pub free-is : vacantIn states parked at s ≡ true → s ≡ freeIn states parked at n
+    free-is : vacantIn states parked at s ≡ true → s ≡ freeIn states parked at n
     unfolding Taken freeIn
     free-is e = passed-hit (vacantIn states parked at) (tab n (λ s. s)) s 0 p (omega (arith, long)) (ap (vacantIn states parked at) is-s ∙ e)
 
-  pub free-none : (s : ℕ) → Taken s → n ≤ s → s ≡ freeIn states parked at n
+  free-none : (s : ℕ) → Taken s → n ≤ s → s ≡ freeIn states parked at n
   unfolding Taken freeIn
   free-none s p h = passed-all (vacantIn states parked at) (tab n (λ s. s)) s p (omega (arith, long))
 
   -- the tests of one slot
   module _ (s : ℕ) where
-    pub vacant-not : (getD states s 0 ≡ 0 → ⊥) → vacantIn states parked at s ≡ false
+    vacant-not : (getD states s 0 ≡ 0 → ⊥) → vacantIn states parked at s ≡ false
     vacant-not h = rw (ne-eqb (getD states s 0) 0 h)
 
-    pub vacant-free : getD states s 0 ≡ 0 → parked ≡ false → vacantIn states parked at s ≡ true
+    vacant-free : getD states s 0 ≡ 0 → parked ≡ false → vacantIn states parked at s ≡ true
     vacant-free h f = rw (eq-eqb (getD states s 0) 0 h, f)
 
-    pub vacant-other : getD states s 0 ≡ 0 → (at ≡ s → ⊥) → vacantIn states parked at s ≡ true
+    vacant-other : getD states s 0 ≡ 0 → (at ≡ s → ⊥) → vacantIn states parked at s ≡ true
     vacant-other h f = rw (eq-eqb (getD states s 0) 0 h, ne-eqb at s f) (go parked)
       where
         go : (b : Bool) → not (b && false) ≡ true
         go true = refl
         go false = refl
 
-    pub vacant-parked : getD states s 0 ≡ 0 → parked ≡ true → at ≡ s → vacantIn states parked at s ≡ false
+    vacant-parked : getD states s 0 ≡ 0 → parked ≡ true → at ≡ s → vacantIn states parked at s ≡ false
     vacant-parked h f e = rw (eq-eqb (getD states s 0) 0 h, f, eq-eqb at s e)
 
   -- no Empty slot lies between a slot up to which none is free and r

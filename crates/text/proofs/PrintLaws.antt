@@ -7,7 +7,7 @@ use native.Mathlib.Nat.{pow-suc}
 use native.Mathlib.Numerals.{add-one}
 use native.Mathlib.Omega.{arith}
 use lib.Dec.{ltb}
-use lib.ListN.{length, take, drop, set, getD, length-set, length-append, length-drop}
+use lib.ListN.{length, take, drop, set, getD, length-set, length-append}
 use lib.Seq.{take-at, drop-at, drop-drop, take-suc, take-all, length-take-le, set-split, append-snoc, paste-zero}
 use borrow.Author.Tests.{lt-ltb, le-ltb}
 use Rattle.text.specs.Print.{digits, decimal, twoDigits, put, Wrote}
@@ -59,9 +59,6 @@ decimal-more n w h = step 18 n h ∙ ap (λ (l : List ℕ). l ++ ((48 + n % 10) 
 pub length-one : (n : ℕ) → n < 10 → length (decimal n) ≡ 1
 length-one n h = ap length (decimal-one n h)
 
-pub length-more : (n : ℕ) → n < 2 ^ 64 → 10 ≤ n → length (decimal n) ≡ length (decimal (n / 10)) + 1
-length-more n w h = ap length (decimal-more n w h) ∙ length-append (decimal (n / 10)) ((48 + n % 10) ∷ [])
-
 -- two digits at a time
 pub decimal-two : (n : ℕ) → n < 100 → 10 ≤ n → decimal n ≡ twoDigits n
 decimal-two n h m =
@@ -94,10 +91,6 @@ unfolding decimal
 decimal-within d n h = within 19 d n h
 
 -- TEXTS IN A BUFFER
-
-pub length-put : (o : List ℕ) (at : ℕ) (t : List ℕ) → at + length t ≤ length o → length (put o at t) ≡ length o
-unfolding put
-length-put o at t h = simp (length-append, length-drop) (omega (arith, length-take-le at o (omega arith)))
 
 put-put : (o : List ℕ) (at : ℕ) (s t : List ℕ) → at + (length s + length t) ≤ length o → put (put o at s) (at + length s) t ≡ put o at (s ++ t)
 unfolding put
