@@ -1,9 +1,9 @@
-//! The same work five ways: the customer's Rust, and ours by the inner calls on tables known sound, by the calls of the product, by
-//! the exported calls with tables by value, and through the mailbox. `bench` times all in turns and prints nanoseconds a call with
-//! their ratios to the Rust's; `bench agree` only holds the answers of all to the Rust's; `bench WORK WAY ROUNDS` does one of them
-//! alone, for a tool that counts instructions.
+//! The same work four ways: the customer's Rust, and ours by the inner calls on tables known sound, by the calls of the product, and by
+//! the exported calls, which take pointers to tables. `bench` times all in turns and prints nanoseconds a call with their ratios to the
+//! Rust's; `bench agree` only holds the answers of all to the Rust's; `bench WORK WAY ROUNDS` does one of them alone, for a tool that
+//! counts instructions.
 
-use bredumalt::{Cookie, Mailbox, Operands, Reply, Table, TaskId, Tasks, Token, WaitTable, WakeQueue, mailbox};
+use bredumalt::{Cookie, Reply, Table, TaskId, Tasks, Token, WaitTable, WakeQueue, irqwait, parktime, tasks, wake};
 use oracle::runqueue::TaskId as TheirId;
 use oracle::tasks::Switch;
 use std::hint::black_box;
@@ -143,137 +143,81 @@ fn number(answer: bredumalt::Answer) -> u64 {
     }
 }
 
-struct Value(Mailbox);
-
-macro_rules! by_value {
-    ($self:ident, $field:ident, $part:ident, $call:expr) => {{
-        let got = $call;
-        $self.0.$field = got.$part;
-        number(got.answer)
-    }};
+/// The exported calls, on tables where they lie.
+struct Pointers {
+    tasks: Tasks,
+    waits: WaitTable,
+    deadlines: Table,
+    wakes: WakeQueue,
+    out: [Token; 16],
 }
 
-impl Side for Value {
+impl Side for Pointers {
     fn new() -> Self {
-        let mut m = Mailbox::new(N, C);
-        m.tasks = bredumalt::tasks::start(m.tasks).tasks;
-        Value(m)
+        let mut t = Tasks::new(N).expect("the size is listed");
+        tasks::start(&mut t).done().expect("it was just made");
+        Pointers {
+            tasks: t,
+            waits: WaitTable::new(),
+            deadlines: Table::new(),
+            wakes: WakeQueue::new(C).expect("the size is listed"),
+            out: [Token(0); 16],
+        }
     }
     fn start1(&mut self) -> u64 {
-        by_value!(self, tasks, tasks, bredumalt::tasks::start_cpu1(self.0.tasks))
+        number(tasks::start_cpu1(&mut self.tasks))
     }
     fn admit(&mut self, cpu: u8) -> u64 {
-        by_value!(self, tasks, tasks, bredumalt::tasks::admit_on(self.0.tasks, cpu))
+        number(tasks::admit_on(&mut self.tasks, cpu))
     }
     fn mark(&mut self, t: TaskId) -> u64 {
-        by_value!(self, tasks, tasks, bredumalt::tasks::set_stealeable(self.0.tasks, t, true))
+        number(tasks::set_stealeable(&mut self.tasks, t, true))
     }
     fn switch(&mut self, cpu: u8, kind: u8) -> u64 {
-        by_value!(self, tasks, tasks, bredumalt::tasks::switch_on(self.0.tasks, cpu, kind))
+        number(tasks::switch_on(&mut self.tasks, cpu, kind))
     }
     fn wake(&mut self, t: TaskId) -> u64 {
-        by_value!(self, tasks, tasks, bredumalt::tasks::wake(self.0.tasks, t))
+        number(tasks::wake(&mut self.tasks, t))
     }
     fn collect(&mut self) -> u64 {
-        by_value!(self, tasks, tasks, bredumalt::tasks::collect(self.0.tasks))
+        number(tasks::collect(&mut self.tasks))
     }
     fn steal(&mut self, cpu: u8) -> u64 {
-        by_value!(self, tasks, tasks, bredumalt::tasks::try_steal_into(self.0.tasks, cpu))
+        number(tasks::try_steal_into(&mut self.tasks, cpu))
     }
     fn arm(&mut self, cookie: u32, t: TaskId) -> u64 {
-        by_value!(self, waits, table, bredumalt::irqwait::arm(self.0.waits, Cookie(cookie), t))
+        number(irqwait::arm(&mut self.waits, Cookie(cookie), t))
     }
     fn signal(&mut self, cookie: u32) -> u64 {
-        by_value!(self, waits, table, bredumalt::irqwait::signal(self.0.waits, Cookie(cookie)))
+        number(irqwait::signal(&mut self.waits, Cookie(cookie)))
     }
     fn take(&mut self, t: TaskId) -> u64 {
-        by_value!(self, waits, table, bredumalt::irqwait::take_pending(self.0.waits, t))
+        number(irqwait::take_pending(&mut self.waits, t))
     }
     fn park(&mut self, t: TaskId, deadline: u64) -> u64 {
-        by_value!(self, deadlines, table, bredumalt::parktime::arm(self.0.deadlines, t, deadline))
+        number(parktime::arm(&mut self.deadlines, t, deadline))
     }
     fn poll(&mut self, now: u64) -> u64 {
-        by_value!(self, deadlines, table, bredumalt::parktime::poll(self.0.deadlines, now, &mut self.0.out))
+        number(parktime::poll(&mut self.deadlines, now, &mut self.out))
     }
     fn push(&mut self, token: u32) -> u64 {
-        by_value!(self, wakes, queue, bredumalt::wake::push(self.0.wakes, Token(token)))
+        number(wake::push(&mut self.wakes, Token(token)))
     }
     fn pop(&mut self) -> u64 {
-        by_value!(self, wakes, queue, bredumalt::wake::pop(self.0.wakes))
-    }
-}
-
-struct Boxed(Mailbox);
-
-impl Boxed {
-    fn call(&mut self, operands: Operands) -> u64 {
-        self.0.operands = operands;
-        mailbox::call(&mut self.0);
-        number(self.0.answer)
-    }
-}
-
-const NONE: Operands = Operands::ZERO;
-
-impl Side for Boxed {
-    fn new() -> Self {
-        let mut m = Boxed(Mailbox::new(N, C));
-        m.call(Operands { call: mailbox::TASKS_START, ..NONE });
-        m
-    }
-    fn start1(&mut self) -> u64 {
-        self.call(Operands { call: mailbox::TASKS_START_CPU1, ..NONE })
-    }
-    fn admit(&mut self, cpu: u8) -> u64 {
-        self.call(Operands { call: mailbox::TASKS_ADMIT_ON, cpu, ..NONE })
-    }
-    fn mark(&mut self, id: TaskId) -> u64 {
-        self.call(Operands { call: mailbox::TASKS_SET_STEALEABLE, id, mark: true, ..NONE })
-    }
-    fn switch(&mut self, cpu: u8, kind: u8) -> u64 {
-        self.call(Operands { call: mailbox::TASKS_SWITCH_ON, cpu, kind, ..NONE })
-    }
-    fn wake(&mut self, id: TaskId) -> u64 {
-        self.call(Operands { call: mailbox::TASKS_WAKE, id, ..NONE })
-    }
-    fn collect(&mut self) -> u64 {
-        self.call(Operands { call: mailbox::TASKS_COLLECT, ..NONE })
-    }
-    fn steal(&mut self, cpu: u8) -> u64 {
-        self.call(Operands { call: mailbox::TASKS_TRY_STEAL_INTO, cpu, ..NONE })
-    }
-    fn arm(&mut self, cookie: u32, id: TaskId) -> u64 {
-        self.call(Operands { call: mailbox::IRQWAIT_ARM, cookie: Cookie(cookie), id, ..NONE })
-    }
-    fn signal(&mut self, cookie: u32) -> u64 {
-        self.call(Operands { call: mailbox::IRQWAIT_SIGNAL, cookie: Cookie(cookie), ..NONE })
-    }
-    fn take(&mut self, id: TaskId) -> u64 {
-        self.call(Operands { call: mailbox::IRQWAIT_TAKE_PENDING, id, ..NONE })
-    }
-    fn park(&mut self, id: TaskId, time: u64) -> u64 {
-        self.call(Operands { call: mailbox::PARKTIME_ARM, id, time, ..NONE })
-    }
-    fn poll(&mut self, time: u64) -> u64 {
-        self.call(Operands { call: mailbox::PARKTIME_POLL, time, ..NONE })
-    }
-    fn push(&mut self, token: u32) -> u64 {
-        self.call(Operands { call: mailbox::WAKE_PUSH, token: Token(token), ..NONE })
-    }
-    fn pop(&mut self) -> u64 {
-        self.call(Operands { call: mailbox::WAKE_POP, ..NONE })
+        number(wake::pop(&mut self.wakes))
     }
 }
 
 // ---- loops of our own, with no boundary within
 
-/// A loop of crate `repeats` for each work, in the order of `works`: it takes the tables that a work begins from, and gives the sum.
-type Loops = [fn(&Mailbox, u32) -> u64; 8];
+/// A loop of crate `repeats` for each work, in the order of `works`: it takes the table that a work begins from by value, and gives the
+/// sum.
+type Loops = [fn(&Pointers, u32) -> u64; 8];
 
 /// What the loops of one kind are given beside their tables is what `works` gives the calls.
 macro_rules! loops {
     ($yield:ident, $mix:ident, $wake:ident, $admit:ident, $steal:ident, $signal:ident, $poll:ident, $push:ident) => {{
-        // SAFETY: the archive has functions of these names and types, and their bools are of this process's making.
+        // SAFETY: the archive has functions of these names and types, which take any bits.
         unsafe extern "C" {
             fn $yield(t: Tasks, rounds: u32) -> u64;
             fn $mix(t: Tasks, rounds: u32) -> u64;
@@ -285,14 +229,14 @@ macro_rules! loops {
             fn $push(q: WakeQueue, token: u32, rounds: u32) -> u64;
         }
         let loops: Loops = [
-            |m, rounds| unsafe { $yield(m.tasks, rounds) },
-            |m, rounds| unsafe { $mix(m.tasks, rounds) },
-            |m, rounds| unsafe { $wake(m.tasks, WOKEN, rounds) },
-            |m, rounds| unsafe { $admit(m.tasks, rounds) },
-            |m, rounds| unsafe { $steal(m.tasks, rounds) },
-            |m, rounds| unsafe { $signal(m.waits, COOKIE, WAITS, rounds) },
-            |m, rounds| unsafe { $poll(m.deadlines, PARKED, DUE - 1, DUE, rounds) },
-            |m, rounds| unsafe { $push(m.wakes, TOKEN, rounds) },
+            |m, rounds| unsafe { $yield(m.tasks.clone(), rounds) },
+            |m, rounds| unsafe { $mix(m.tasks.clone(), rounds) },
+            |m, rounds| unsafe { $wake(m.tasks.clone(), WOKEN, rounds) },
+            |m, rounds| unsafe { $admit(m.tasks.clone(), rounds) },
+            |m, rounds| unsafe { $steal(m.tasks.clone(), rounds) },
+            |m, rounds| unsafe { $signal(m.waits.clone(), COOKIE, WAITS, rounds) },
+            |m, rounds| unsafe { $poll(m.deadlines.clone(), PARKED, DUE - 1, DUE, rounds) },
+            |m, rounds| unsafe { $push(m.wakes.clone(), TOKEN, rounds) },
         ];
         loops
     }};
@@ -458,8 +402,8 @@ fn done<S: Side>(work: &Work<S>, rounds: u32) -> (f64, u64) {
 }
 
 /// The same by a loop of our own.
-fn looped(work: &Work<Value>, run: fn(&Mailbox, u32) -> u64, rounds: u32) -> (f64, u64) {
-    let Value(tables) = black_box((work.begin)());
+fn looped(work: &Work<Pointers>, run: fn(&Pointers, u32) -> u64, rounds: u32) -> (f64, u64) {
+    let tables = black_box((work.begin)());
     let from = Instant::now();
     let sum = run(&tables, rounds);
     (per_call(from, work.calls, rounds), sum)
@@ -469,7 +413,7 @@ fn per_call(from: Instant, calls: u64, rounds: u32) -> f64 {
     from.elapsed().as_nanos() as f64 / (u64::from(rounds) * calls) as f64
 }
 
-const WAYS: [&str; 5] = ["rust", "known", "checked", "value", "mailbox"];
+const WAYS: [&str; 4] = ["rust", "known", "checked", "pointers"];
 
 /// The work of a number by the way of a number.
 fn run(work: usize, way: usize, rounds: u32) -> (f64, u64) {
@@ -477,8 +421,7 @@ fn run(work: usize, way: usize, rounds: u32) -> (f64, u64) {
         0 => done(&works::<Rust>()[work], rounds),
         1 => looped(&works()[work], known()[work], rounds),
         2 => looped(&works()[work], checked()[work], rounds),
-        3 => done(&works::<Value>()[work], rounds),
-        _ => done(&works::<Boxed>()[work], rounds),
+        _ => done(&works::<Pointers>()[work], rounds),
     }
 }
 
@@ -496,7 +439,7 @@ fn main() {
     let args: Vec<String> = std::env::args().skip(1).collect();
     if let [name, way, rounds] = &args[..] {
         let work = names.iter().position(|n| n == name).expect("a work");
-        let way = WAYS.iter().position(|w| w == way).expect("rust, known, checked, value or mailbox");
+        let way = WAYS.iter().position(|w| w == way).expect("rust, known, checked or pointers");
         println!("{}", run(work, way, rounds.parse().expect("a number")).1);
         return;
     }
@@ -508,10 +451,8 @@ fn main() {
         return;
     }
     assert!(args.is_empty(), "usage: bench [agree | WORK WAY ROUNDS]");
-    println!(
-        "| work | the Rust, ns a call | known sound | checked | by value | mailbox | known / Rust | checked / Rust | by value / Rust | mailbox / Rust |"
-    );
-    println!("|---|---|---|---|---|---|---|---|---|---|");
+    println!("| work | the Rust, ns a call | known sound | checked | pointers | known / Rust | checked / Rust | pointers / Rust |");
+    println!("|---|---|---|---|---|---|---|---|");
     for (work, name) in names.iter().enumerate() {
         // in turns, and the fastest of each, so that what else the machine does counts little
         let mut best = [f64::MAX; WAYS.len()];

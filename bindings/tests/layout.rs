@@ -1,4 +1,5 @@
 //! Sizes, alignments and offsets, against the table that the C program is compared with too.
+use bredumalt::sys::{DeadlinesAnswer, EndsAnswer, SmallAnswer, SpanAnswer, WaitersAnswer};
 use bredumalt::*;
 use std::mem::{align_of, offset_of, size_of};
 
@@ -19,21 +20,22 @@ fn layouts_are_those_of_c() {
         Cookie { 0 }
         Token { 0 }
         Answer { refusal kind flag number first second third }
-        RunQueue { n head len slots epochs }
-        WakeQueue { c head tail drops tokens }
+        Span { n head len }
+        RunQueue { span slots epochs }
+        Ends { c head tail drops }
+        WakeQueue { ends tokens }
         Waiter { live cookie task }
-        Mark { set task }
-        WaitTable { waiters pending }
+        Waiters { all }
+        WaitTable { waiters pending pending_slots pending_epochs }
         Entry { live task deadline }
         Table { entries }
-        Tasks { n heads lens currents idles parked parked_id overwrites block_events peak states epochs homes marks ring_slots ring_epochs }
-        QueueAnswer { queue answer }
-        WakesAnswer { queue answer }
-        WaitsAnswer { table answer }
+        Small { n heads lens currents idles parked parked_id overwrites block_events peak }
+        Tasks { small states epochs homes marks ring_slots ring_epochs }
+        SpanAnswer { span answer }
+        EndsAnswer { ends answer }
+        WaitersAnswer { waiters answer }
         DeadlinesAnswer { table answer }
-        TasksAnswer { tasks answer }
-        Operands { call cpu kind mark id cookie token slot time }
-        Mailbox { tasks waits deadlines wakes out operands answer }
+        SmallAnswer { small answer }
     );
     assert_eq!(text, include_str!("layout.txt"));
 }

@@ -1,10 +1,9 @@
 //! The sixteen deadlines on both sides.
 
-use crate::boxed::Boxed;
 use crate::pair::{Pair, Setup};
 use crate::rng::Rng;
-use crate::{id, reply, same, their, written};
-use bredumalt::{Answer, Operands, Reply, Table, TaskId, mailbox, parktime};
+use crate::{flagged, id, reply, same, their};
+use bredumalt::{Answer, Reply, Table, TaskId, Token, parktime};
 use oracle::guarded::{self, Refusal};
 use oracle::parktime::Table as Theirs;
 use std::fmt;
@@ -23,8 +22,8 @@ use Call::*;
 impl fmt::Display for Call {
     fn fmt(&self, f: &mut fmt::Formatter) -> fmt::Result {
         match *self {
-            Arm(t, d) => write!(f, "park {} {d}", written(t)),
-            Disarm(t) => write!(f, "unpark {}", written(t)),
+            Arm(t, d) => write!(f, "park {t} {d}"),
+            Disarm(t) => write!(f, "unpark {t}"),
             Poll(now, places) => write!(f, "poll {now} ({places} places)"),
         }
     }
@@ -33,8 +32,8 @@ impl fmt::Display for Call {
 /// The longest output tried, and what it holds before a poll.
 pub const PLACES: usize = 20;
 
-pub fn before(i: usize) -> u32 {
-    0xabcd_0000 + i as u32
+pub fn before(i: usize) -> Token {
+    Token(0xabcd_0000 + i as u32)
 }
 
 fn theirs_call(t: &mut Theirs, c: Call, out: &mut [u32]) -> Result<Reply, Refusal> {
@@ -51,32 +50,22 @@ fn theirs_call(t: &mut Theirs, c: Call, out: &mut [u32]) -> Result<Reply, Refusa
     })
 }
 
-pub fn by_value(t: Table, c: Call, out: &mut [u32]) -> (Table, Answer) {
-    let changed = match c {
+pub fn call(t: &mut Table, c: Call, out: &mut [Token]) -> Answer {
+    match c {
         Arm(x, d) => parktime::arm(t, x, d),
         Disarm(x) => parktime::disarm(t, x),
         Poll(now, places) => parktime::poll(t, now, &mut out[..places]),
-    };
-    (changed.table, changed.answer)
-}
-
-pub fn operands(c: Call, noise: Operands) -> Operands {
-    match c {
-        Arm(id, time) => Operands { call: mailbox::PARKTIME_ARM, id, time, ..noise },
-        Disarm(id) => Operands { call: mailbox::PARKTIME_DISARM, id, ..noise },
-        Poll(time, _) => Operands { call: mailbox::PARKTIME_POLL, time, ..noise },
     }
 }
 
 pub struct Both {
     theirs: Theirs,
     ours: Table,
-    boxed: Option<Boxed>,
 }
 
 impl Both {
     pub fn ours(&self) -> &Table {
-        self.boxed.as_ref().map_or(&self.ours, |b| &b.mailbox.deadlines)
+        &self.ours
     }
 }
 
@@ -85,37 +74,20 @@ impl Pair for Both {
     const NAME: &'static str = "deadlines";
     const BIASES: &'static [&'static str] = &["even", "full", "few"];
 
-    fn fresh(setup: Setup) -> Self {
-        let boxed = setup.boxed.map(|seed| Boxed::new(1, 2, seed));
-        Both { theirs: Theirs::new(), ours: parktime::new(), boxed }
+    fn fresh(_: Setup) -> Self {
+        Both { theirs: Theirs::new(), ours: Table::new() }
     }
 
-    fn step(&mut self, call: Call) -> Result<(), String> {
-        let mut expected: [u32; PLACES] = std::array::from_fn(before);
-        let mut out = expected;
-        // a mailbox has an output of sixteen places, always
-        let call = match (call, &self.boxed) {
-            (Poll(now, _), Some(_)) => Poll(now, 16),
-            _ => call,
-        };
-        let answered = reply(theirs_call(&mut self.theirs, call, &mut expected));
-        let answer = match &mut self.boxed {
-            Some(b) => {
-                b.mailbox.out.copy_from_slice(&out[..16]);
-                let answer = b.call(|noise| operands(call, noise))?;
-                out[..16].copy_from_slice(&b.mailbox.out);
-                answer
-            }
-            None => {
-                let answer;
-                (self.ours, answer) = by_value(self.ours, call, &mut out);
-                answer
-            }
-        };
+    fn step(&mut self, c: Call) -> Result<(), String> {
+        let mut out: [Token; PLACES] = std::array::from_fn(before);
+        let mut expected = out.map(|token| token.0);
+        let answered = reply(theirs_call(&mut self.theirs, c, &mut expected));
+        let answer = call(&mut self.ours, c, &mut out);
         same("answer", answered, answer.reply())?;
-        same("output", expected, out)?;
-        for (i, e) in self.ours().entries.iter().enumerate() {
-            same(&format!("entry {i}"), self.theirs.entry(i).map(|(x, d)| (id(x), d)), e.live.then_some((e.task, e.deadline)))?;
+        same("output", expected, out.map(|token| token.0))?;
+        for (i, e) in self.ours.entries.iter().enumerate() {
+            let what = format!("entry {i}");
+            same(&what, self.theirs.entry(i).map(|(x, d)| (id(x), d)), flagged(&what, e.live, (e.task, e.deadline))?)?;
         }
         Ok(())
     }
@@ -140,13 +112,13 @@ impl Pair for Both {
     }
 
     fn copy(&mut self) -> Self {
-        Both { theirs: self.theirs.clone(), ours: self.ours, boxed: self.boxed.clone() }
+        Both { theirs: self.theirs.clone(), ours: self.ours.clone() }
     }
 
     fn all(&mut self, h: &mut DefaultHasher) {
         for i in 0..16 {
             self.theirs.entry(i).hash(h);
-            let e = self.ours().entries[i];
+            let e = self.ours.entries[i];
             (e.live, e.task.slot, e.task.epoch, e.deadline).hash(h);
         }
     }

@@ -1,7 +1,7 @@
-//! Two sides of each kind of table, the customer's Rust and our exported calls, made to do the same calls and compared after each.
+//! Two sides of each kind of table, the customer's Rust and our exported calls, made to do the same calls and compared after each. Ours
+//! are made on the table where it lies.
 //! What is compared, and by which runs, is told in docs/ORACLE.md.
 
-pub mod boxed;
 pub mod deadlines;
 pub mod pair;
 pub mod ring;
@@ -36,9 +36,13 @@ pub fn reply(answer: Result<Reply, Refusal>) -> Reply {
     answer.unwrap_or_else(|Refusal(no)| Reply::Refused(no))
 }
 
-/// An id as scripts write it.
-pub fn written(t: TaskId) -> String {
-    format!("{}/{}", t.slot, t.epoch)
+/// What a flag says is there, or not; a byte that is neither 0 nor 1 is a difference.
+pub fn flagged<T>(what: &str, flag: u8, value: T) -> Result<Option<T>, String> {
+    match flag {
+        0 => Ok(None),
+        1 => Ok(Some(value)),
+        other => Err(format!("{what}: ours has a flag of {other}")),
+    }
 }
 
 /// Tells the two values where they differ.

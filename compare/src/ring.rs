@@ -2,7 +2,7 @@
 
 use crate::pair::{Pair, Setup};
 use crate::rng::Rng;
-use crate::{id, named, reply, same, their, written};
+use crate::{id, named, reply, same, their};
 use bredumalt::{Answer, Reply, RunQueue, TaskId, runqueue};
 use oracle::for_size;
 use oracle::guarded::Refusal;
@@ -28,8 +28,8 @@ use Call::*;
 impl fmt::Display for Call {
     fn fmt(&self, f: &mut fmt::Formatter) -> fmt::Result {
         match *self {
-            Enqueue(t) => write!(f, "enqueue {}", written(t)),
-            AfterYield(t) => write!(f, "after_yield {}", t.map_or("-".into(), written)),
+            Enqueue(t) => write!(f, "enqueue {t}"),
+            AfterYield(t) => write!(f, "after_yield {}", t.map_or("-".into(), |t| t.to_string())),
             other => write!(f, "{other:?}"),
         }
     }
@@ -75,24 +75,24 @@ impl<const N: usize> Queue for Theirs<N> {
 }
 
 fn contents(q: &RunQueue) -> Vec<TaskId> {
-    (0..q.len).map(|i| (q.head + i) % q.n).map(|p| TaskId { slot: q.slots[p], epoch: q.epochs[p] }).collect()
+    let s = q.span;
+    (0..s.len).map(|i| (s.head + i) % s.n).map(|p| TaskId { slot: q.slots[p], epoch: q.epochs[p] }).collect()
 }
 
-pub fn by_value(q: RunQueue, c: Call) -> (RunQueue, Answer) {
+pub fn call(q: &mut RunQueue, c: Call) -> Answer {
     // beside an absent id stands one that must not count
     let other = TaskId { slot: 9, epoch: 9 };
-    let changed = match c {
+    match c {
         Enqueue(x) => runqueue::enqueue(q, x),
         Dequeue => runqueue::dequeue(q),
         AfterYield(x) => runqueue::after_yield(q, x.is_some(), x.unwrap_or(other)),
-        Capacity => return (q, runqueue::capacity(q)),
-        Len => return (q, runqueue::len(q)),
-        IsEmpty => return (q, runqueue::is_empty(q)),
-        IsFull => return (q, runqueue::is_full(q)),
-        Front => return (q, runqueue::front(q)),
-        ReadyAt(i) => return (q, runqueue::ready_at(q, i)),
-    };
-    (changed.queue, changed.answer)
+        Capacity => runqueue::capacity(q),
+        Len => runqueue::len(q),
+        IsEmpty => runqueue::is_empty(q),
+        IsFull => runqueue::is_full(q),
+        Front => runqueue::front(q),
+        ReadyAt(i) => runqueue::ready_at(q, i),
+    }
 }
 
 pub struct Both {
@@ -111,18 +111,14 @@ impl Pair for Both {
     const NAME: &'static str = "ring";
     const BIASES: &'static [&'static str] = &["even", "full", "empty"];
 
-    /// A mailbox has no ring: it is called by value only.
     fn fresh(setup: Setup) -> Self {
-        let made = runqueue::new(setup.size);
-        assert_eq!(made.answer.reply(), Reply::Done);
-        Both { theirs: for_size!(setup.size, N => Box::new(Theirs::<N>::new())), ours: made.queue }
+        let ours = RunQueue::new(setup.size).expect("the size is listed");
+        Both { theirs: for_size!(setup.size, N => Box::new(Theirs::<N>::new())), ours }
     }
 
-    fn step(&mut self, call: Call) -> Result<(), String> {
-        let expected = reply(self.theirs.call(call));
-        let answer;
-        (self.ours, answer) = by_value(self.ours, call);
-        same("answer", expected, answer.reply())?;
+    fn step(&mut self, c: Call) -> Result<(), String> {
+        let expected = reply(self.theirs.call(c));
+        same("answer", expected, call(&mut self.ours, c).reply())?;
         same("contents", self.theirs.contents(), contents(&self.ours))
     }
 
@@ -134,7 +130,7 @@ impl Pair for Both {
             1 => Dequeue,
             2 => AfterYield((!rng.one_in(3)).then_some(x)),
             _ => {
-                let n = self.ours.n;
+                let n = self.ours.span.n;
                 let at = rng.of(&[0, n - 1, n, usize::MAX, x.slot as usize % (n + 1)]);
                 rng.of(&[Capacity, Len, IsEmpty, IsFull, Front, ReadyAt(at), ReadyAt(at)])
             }
@@ -142,13 +138,13 @@ impl Pair for Both {
     }
 
     fn copy(&mut self) -> Self {
-        Both { theirs: self.theirs.copy(), ours: self.ours }
+        Both { theirs: self.theirs.copy(), ours: self.ours.clone() }
     }
 
     fn all(&mut self, h: &mut DefaultHasher) {
         self.theirs.all(h);
         let q = &self.ours;
-        (q.n, q.head, q.len, q.slots, q.epochs).hash(h);
+        (q.span.n, q.span.head, q.span.len, q.slots, q.epochs).hash(h);
     }
 
     fn every(&self) -> Vec<Call> {
@@ -156,7 +152,7 @@ impl Pair for Both {
         let mut calls = vec![Dequeue, AfterYield(None), Capacity, Len, IsEmpty, IsFull, Front];
         calls.extend(ids.map(Enqueue));
         calls.extend(ids.map(|x| AfterYield(Some(x))));
-        calls.extend((0..=self.ours.n).map(ReadyAt));
+        calls.extend((0..=self.ours.span.n).map(ReadyAt));
         calls
     }
 }

@@ -1,9 +1,10 @@
 //! What random calls on one table do not reach: ids, `lifecycle`, the calls that make tables, the end of `overwrites`.
 
 use crate::rng::Rng;
-use crate::tasks::{Call, by_value};
+use crate::tasks::{Call, call};
 use crate::{id, same};
-use bredumalt::{Answer, EXIT, Reply, TaskId, Token, YIELD, ids, irqwait, parktime, runqueue, tasks, wake};
+use bredumalt::{Answer, Reply, RunQueue, Table, TaskId, Tasks, Token, Verdict, WaitTable, WakeQueue, ids};
+use bredumalt::{irqwait, parktime, runqueue, tasks, wake};
 use oracle::lifecycle::{CancelVerdict, ForceError, ForceVerdict, ReapError, ReapVerdict, cancel, force, reap};
 use oracle::plain::{self, WAKE_SIZES};
 use oracle::runqueue::TaskId as TheirId;
@@ -25,7 +26,12 @@ pub fn packing(rng: &mut Rng, times: u64) -> Result<u64, String> {
     Ok(2 * times)
 }
 
-/// Every state code, those of no state included (an id that is not known), idle and not.
+/// A verdict, or the refusal in its place, by its number.
+fn number(verdict: Result<Verdict, bredumalt::Refusal>) -> u8 {
+    verdict.map_or_else(|refusal| refusal.number(), |verdict| verdict.number())
+}
+
+/// Every state code, those of no state included (an id that is not known), with every byte for the flag.
 pub fn lifecycle() -> Result<u64, String> {
     for code in 0..=255 {
         let state = [State::Empty, State::Ready, State::Running, State::Blocked].get(code as usize).copied();
@@ -36,7 +42,7 @@ pub fn lifecycle() -> Result<u64, String> {
                 ReapVerdict::Refuse(ReapError::BadId) => 6,
                 ReapVerdict::Refuse(ReapError::NotBlocked) => 7,
             };
-            same(&format!("reap {idle} {state:?}"), verdict, bredumalt::lifecycle::reap(idle, code))?;
+            same(&format!("reap {idle} {state:?}"), verdict, number(bredumalt::lifecycle::reap(idle, code)))?;
             let verdict = match force(idle, state) {
                 ForceVerdict::FlagAndCancel => 2,
                 ForceVerdict::FlagAndNudge => 3,
@@ -44,15 +50,20 @@ pub fn lifecycle() -> Result<u64, String> {
                 ForceVerdict::Refuse(ForceError::BadId) => 6,
                 ForceVerdict::Refuse(ForceError::Empty) => 8,
             };
-            same(&format!("force {idle} {state:?}"), verdict, bredumalt::lifecycle::force(idle, code))?;
+            same(&format!("force {idle} {state:?}"), verdict, number(bredumalt::lifecycle::force(idle, code)))?;
+        }
+        // a byte that is no flag is 12, whatever the state
+        for flag in 2..=255 {
+            let got = (bredumalt::lifecycle::reap(flag, code), bredumalt::lifecycle::force(flag, code));
+            same(&format!("reap and force with a flag of {flag}"), (12, 12), (number(got.0), number(got.1)))?;
         }
         let verdict = match cancel(state) {
             CancelVerdict::MarkAndWake => 4,
             CancelVerdict::Refuse => 0,
         };
-        same(&format!("cancel {state:?}"), verdict, bredumalt::lifecycle::cancel(code))?;
+        same(&format!("cancel {state:?}"), verdict, number(bredumalt::lifecycle::cancel(code)))?;
     }
-    Ok(256 * 5)
+    Ok(256 * (2 * 256 + 1))
 }
 
 /// The end of `overwrites`, which is outside the domain: at an exit that displaces a parked id ours stays there, and the Rust panics,
@@ -66,12 +77,14 @@ pub fn end_of_overwrites() -> Result<u64, String> {
     theirs.switch(Switch::Exit);
     theirs.set_overwrites(u32::MAX);
     let panics = catch_unwind(AssertUnwindSafe(|| theirs.switch(Switch::Exit))).is_err();
-    let calls = [Call::Start, Call::Admit, Call::Admit, Call::Switch(YIELD), Call::Switch(EXIT)];
-    let mut ours = calls.into_iter().fold(tasks::new(3).tasks, |t, call| by_value(t, call).0);
-    ours.overwrites = u32::MAX;
-    let (after, answer) = by_value(ours, Call::Switch(EXIT));
+    let mut ours = Tasks::new(3).expect("the size is listed");
+    for c in [Call::Start, Call::Admit, Call::Admit, Call::Switch(0), Call::Switch(3)] {
+        call(&mut ours, c).done().expect("the calls are in order");
+    }
+    ours.small.overwrites = u32::MAX;
+    let answer = call(&mut ours, Call::Switch(3));
     let released = matches!(answer.reply(), Reply::Switch { release: Some(TaskId { slot: 1, epoch: 0 }), .. });
-    let stays = released && after.overwrites == u32::MAX;
+    let stays = released && ours.small.overwrites == u32::MAX;
     if panics && stays { Ok(2) } else { Err(format!("at the end of overwrites: the Rust panics: {panics}; ours stays: {stays}")) }
 }
 
@@ -84,13 +97,13 @@ pub fn makers(rng: &mut Rng) -> Result<u64, String> {
     let refused = |a: Answer| a.reply() == Reply::Refused(2);
     for &size in &sizes {
         let listed = plain::listed(size);
-        let (t, q, w) = (tasks::new(size), runqueue::new(size), wake::new(size));
-        same(&format!("tasks::new {size} refused"), !listed, refused(t.answer))?;
-        same(&format!("runqueue::new {size} refused"), !listed, refused(q.answer))?;
-        same(&format!("wake::new {size} refused"), !WAKE_SIZES.contains(&size), refused(w.answer))?;
-        same(&format!("new {size} sound"), (true, true, true), (tasks::sound(t.tasks), runqueue::sound(q.queue), wake::sound(w.queue)))?;
+        let (mut t, mut q, mut w) = (Tasks::ZERO, RunQueue::ZERO, WakeQueue::ZERO);
+        same(&format!("tasks::init {size} refused"), !listed, refused(tasks::init(&mut t, size)))?;
+        same(&format!("runqueue::init {size} refused"), !listed, refused(runqueue::init(&mut q, size)))?;
+        same(&format!("wake::init {size} refused"), !WAKE_SIZES.contains(&size), refused(wake::init(&mut w, size)))?;
+        same(&format!("init {size} sound"), (true, true, true), (tasks::sound(&t), runqueue::sound(&q), wake::sound(&w)))?;
     }
-    same("irqwait::new sound", true, irqwait::sound(irqwait::new()))?;
-    same("parktime::new sound", true, parktime::sound(parktime::new()))?;
+    same("irqwait::init sound", true, irqwait::sound(&WaitTable::new()))?;
+    same("parktime::init sound", true, parktime::sound(&Table::new()))?;
     Ok(3 * sizes.len() as u64 + 2)
 }

@@ -9,17 +9,18 @@ fn pair(t: TaskId) -> Id {
 }
 
 pub fn tasks(t: &Tasks) -> bool {
+    let s = &t.small;
     let plain = Plain {
-        n: t.n,
-        heads: t.heads,
-        lens: t.lens,
-        currents: t.currents.map(pair),
-        idles: t.idles.map(pair),
-        parked: t.parked,
-        parked_id: pair(t.parked_id),
-        overwrites: t.overwrites,
-        block_events: t.block_events,
-        peak: t.peak,
+        n: s.n,
+        heads: s.heads,
+        lens: s.lens,
+        currents: s.currents.map(pair),
+        idles: s.idles.map(pair),
+        parked: s.parked,
+        parked_id: pair(s.parked_id),
+        overwrites: s.overwrites,
+        block_events: s.block_events,
+        peak: s.peak,
         states: t.states,
         epochs: t.epochs,
         homes: t.homes,
@@ -30,19 +31,18 @@ pub fn tasks(t: &Tasks) -> bool {
 }
 
 pub fn waits(t: &WaitTable) -> bool {
-    let live: Vec<(u32, Id)> = t.waiters.iter().filter(|w| w.live).map(|w| (w.cookie, pair(w.task))).collect();
-    plain::waits_sound(&live, &t.pending.map(|m| m.set.then_some(pair(m.task))))
+    let marks: [(u8, Id); 64] = std::array::from_fn(|slot| (t.pending[slot], (t.pending_slots[slot], t.pending_epochs[slot])));
+    plain::waits_sound(&t.waiters.all.map(|w| (w.live, w.cookie.0, pair(w.task))), &marks)
 }
 
 pub fn deadlines(t: &Table) -> bool {
-    let live: Vec<Id> = t.entries.iter().filter(|e| e.live).map(|e| pair(e.task)).collect();
-    plain::deadlines_sound(&live)
+    plain::deadlines_sound(&t.entries.map(|e| (e.live, pair(e.task))))
 }
 
 pub fn wakes(q: &WakeQueue) -> bool {
-    plain::wakes_sound(q.c, q.head, q.tail)
+    plain::wakes_sound(q.ends.c, q.ends.head, q.ends.tail)
 }
 
 pub fn ring(q: &RunQueue) -> bool {
-    plain::ring_sound(q.n, q.head, q.len)
+    plain::ring_sound(q.span.n, q.span.head, q.span.len)
 }

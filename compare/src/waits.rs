@@ -1,10 +1,9 @@
 //! The table of interrupt waits on both sides.
 
-use crate::boxed::{Boxed, answered};
 use crate::pair::{Pair, Setup};
 use crate::rng::Rng;
-use crate::{id, named, reply, same, their, written};
-use bredumalt::{Answer, Cookie, Operands, Reply, TaskId, WaitTable, irqwait, mailbox};
+use crate::{flagged, id, named, reply, same, their};
+use bredumalt::{Answer, Cookie, Reply, TaskId, WaitTable, irqwait};
 use oracle::guarded::Refusal;
 use oracle::irqwait::WaitTable as Theirs;
 use std::fmt;
@@ -24,11 +23,11 @@ use Call::*;
 impl fmt::Display for Call {
     fn fmt(&self, f: &mut fmt::Formatter) -> fmt::Result {
         match *self {
-            Arm(c, t) => write!(f, "irq {c} {}", written(t)),
-            Disarm(t) => write!(f, "unirq {}", written(t)),
+            Arm(c, t) => write!(f, "irq {c} {t}"),
+            Disarm(t) => write!(f, "unirq {t}"),
             Signal(c) => write!(f, "signal {c}"),
-            Take(t) => write!(f, "take {}", written(t)),
-            IsPending(t) => write!(f, "is pending {}", written(t)),
+            Take(t) => write!(f, "take {t}"),
+            IsPending(t) => write!(f, "is pending {t}"),
         }
     }
 }
@@ -49,50 +48,45 @@ fn theirs_call(t: &mut Theirs, c: Call) -> Result<Reply, Refusal> {
     })
 }
 
+/// The id that stands beside the mark of a slot.
+pub fn marked(t: &WaitTable, slot: usize) -> TaskId {
+    TaskId { slot: t.pending_slots[slot], epoch: t.pending_epochs[slot] }
+}
+
 /// Entries and marks, each in its place.
 fn compare(r: &Theirs, t: &WaitTable) -> Result<(), String> {
-    for (i, w) in t.waiters.iter().enumerate() {
-        same(&format!("entry {i}"), r.entry(i).map(|(c, x)| (c, id(x))), w.live.then_some((w.cookie, w.task)))?;
+    for (i, w) in t.waiters.all.iter().enumerate() {
+        let what = format!("entry {i}");
+        same(&what, r.entry(i).map(|(c, x)| (c, id(x))), flagged(&what, w.live, (w.cookie.0, w.task))?)?;
     }
-    for (slot, m) in t.pending.iter().enumerate() {
-        if r.mark(slot).map(id) != m.set.then_some(m.task) {
-            same(&format!("mark of slot {slot}"), r.mark(slot).map(id), m.set.then_some(m.task))?;
+    for slot in 0..64 {
+        let (theirs, flag) = (r.mark(slot).map(id), t.pending[slot]);
+        if flag > 1 || theirs != (flag == 1).then_some(marked(t, slot)) {
+            let what = format!("mark of slot {slot}");
+            same(&what, theirs, flagged(&what, flag, marked(t, slot))?)?;
         }
     }
     Ok(())
 }
 
-pub fn by_value(t: WaitTable, c: Call) -> (WaitTable, Answer) {
-    let changed = match c {
+pub fn call(t: &mut WaitTable, c: Call) -> Answer {
+    match c {
         Arm(c, x) => irqwait::arm(t, Cookie(c), x),
         Disarm(x) => irqwait::disarm_task(t, x),
         Signal(c) => irqwait::signal(t, Cookie(c)),
         Take(x) => irqwait::take_pending(t, x),
-        IsPending(x) => return (t, irqwait::is_pending(t, x)),
-    };
-    (changed.table, changed.answer)
-}
-
-pub fn operands(c: Call, noise: Operands) -> Operands {
-    let of = |call, id| Operands { call, id, ..noise };
-    match c {
-        Arm(cookie, id) => Operands { call: mailbox::IRQWAIT_ARM, cookie: Cookie(cookie), id, ..noise },
-        Disarm(x) => of(mailbox::IRQWAIT_DISARM_TASK, x),
-        Signal(cookie) => Operands { call: mailbox::IRQWAIT_SIGNAL, cookie: Cookie(cookie), ..noise },
-        Take(x) => of(mailbox::IRQWAIT_TAKE_PENDING, x),
-        IsPending(x) => of(mailbox::IRQWAIT_IS_PENDING, x),
+        IsPending(x) => irqwait::is_pending(t, x),
     }
 }
 
 pub struct Both {
     theirs: Theirs,
     ours: WaitTable,
-    boxed: Option<Boxed>,
 }
 
 impl Both {
     pub fn ours(&self) -> &WaitTable {
-        self.boxed.as_ref().map_or(&self.ours, |b| &b.mailbox.waits)
+        &self.ours
     }
 }
 
@@ -119,16 +113,14 @@ impl Pair for Both {
     const NAME: &'static str = "wait table";
     const BIASES: &'static [&'static str] = &["even", "full", "marks", "few"];
 
-    fn fresh(setup: Setup) -> Self {
-        let boxed = setup.boxed.map(|seed| Boxed::new(1, 2, seed));
-        Both { theirs: Theirs::new(), ours: irqwait::new(), boxed }
+    fn fresh(_: Setup) -> Self {
+        Both { theirs: Theirs::new(), ours: WaitTable::new() }
     }
 
-    fn step(&mut self, call: Call) -> Result<(), String> {
-        let expected = reply(theirs_call(&mut self.theirs, call));
-        let answer = answered(&mut self.boxed, |noise| operands(call, noise), &mut self.ours, |ours| by_value(ours, call))?;
-        same("answer", expected, answer.reply())?;
-        compare(&self.theirs, self.ours())
+    fn step(&mut self, c: Call) -> Result<(), String> {
+        let expected = reply(theirs_call(&mut self.theirs, c));
+        same("answer", expected, call(&mut self.ours, c).reply())?;
+        compare(&self.theirs, &self.ours)
     }
 
     fn pick(&self, rng: &mut Rng, bias: usize) -> Call {
@@ -143,17 +135,15 @@ impl Pair for Both {
     }
 
     fn copy(&mut self) -> Self {
-        Both { theirs: self.theirs.clone(), ours: self.ours, boxed: self.boxed.clone() }
+        Both { theirs: self.theirs.clone(), ours: self.ours.clone() }
     }
 
     fn all(&mut self, h: &mut DefaultHasher) {
         format!("{:?}", self.theirs).hash(h);
-        for w in self.ours().waiters {
-            (w.live, w.cookie, w.task.slot, w.task.epoch).hash(h);
+        for w in self.ours.waiters.all {
+            (w.live, w.cookie, w.task).hash(h);
         }
-        for m in self.ours().pending {
-            (m.set, m.task.slot, m.task.epoch).hash(h);
-        }
+        (self.ours.pending, self.ours.pending_slots, self.ours.pending_epochs).hash(h);
     }
 
     /// Two cookies, two slots, one of them with two tenants.

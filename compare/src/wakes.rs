@@ -1,10 +1,9 @@
 //! The queue of wake tokens on both sides.
 
-use crate::boxed::{Boxed, answered};
 use crate::pair::{Pair, Setup};
 use crate::rng::Rng;
 use crate::same;
-use bredumalt::{Answer, Operands, Reply, Token, WakeQueue, mailbox, wake};
+use bredumalt::{Answer, Reply, Token, WakeQueue, wake};
 use oracle::plain::WAKE_SIZES;
 use oracle::wake::WakeQueue as Theirs;
 use std::fmt;
@@ -68,38 +67,27 @@ impl<const C: usize> Queue for Theirs<C> {
 
 /// What our queue holds, from the oldest on.
 fn contents(q: &WakeQueue) -> Vec<u32> {
-    (0..(q.head + q.c - q.tail) % q.c).map(|i| q.tokens[(q.tail + i) % q.c]).collect()
+    let e = q.ends;
+    (0..(e.head + e.c - e.tail) % e.c).map(|i| q.tokens[(e.tail + i) % e.c]).collect()
 }
 
-pub fn by_value(q: WakeQueue, c: Call) -> (WakeQueue, Answer) {
-    let changed = match c {
+pub fn call(q: &mut WakeQueue, c: Call) -> Answer {
+    match c {
         Push(t) => wake::push(q, Token(t)),
         Pop => wake::pop(q),
-        Drops => return (q, wake::drops(q)),
-        IsEmpty => return (q, wake::is_empty(q)),
-    };
-    (changed.queue, changed.answer)
-}
-
-pub fn operands(c: Call, noise: Operands) -> Operands {
-    let no = |call| Operands { call, ..noise };
-    match c {
-        Push(token) => Operands { call: mailbox::WAKE_PUSH, token: Token(token), ..noise },
-        Pop => no(mailbox::WAKE_POP),
-        Drops => no(mailbox::WAKE_DROPS),
-        IsEmpty => no(mailbox::WAKE_IS_EMPTY),
+        Drops => wake::drops(q),
+        IsEmpty => wake::is_empty(q),
     }
 }
 
 pub struct Both {
     theirs: Box<dyn Queue>,
     ours: WakeQueue,
-    boxed: Option<Boxed>,
 }
 
 impl Both {
     pub fn ours(&self) -> &WakeQueue {
-        self.boxed.as_ref().map_or(&self.ours, |b| &b.mailbox.wakes)
+        &self.ours
     }
 }
 
@@ -122,27 +110,19 @@ impl Pair for Both {
             64 => Box::new(Theirs::<64>::new()),
             c => panic!("no wake queue has {c} places"),
         };
-        let made = wake::new(setup.size);
-        assert_eq!(made.answer.reply(), Reply::Done);
-        let mut ours = made.queue;
+        let mut ours = WakeQueue::new(setup.size).expect("the size is listed");
         if setup.late {
             theirs.set_drops(u32::MAX - 2);
-            ours.drops = u32::MAX - 2;
+            ours.ends.drops = u32::MAX - 2;
         }
-        let boxed = setup.boxed.map(|seed| {
-            let mut b = Boxed::new(1, setup.size, seed);
-            b.mailbox.wakes = ours;
-            b
-        });
-        Both { theirs, ours, boxed }
+        Both { theirs, ours }
     }
 
-    fn step(&mut self, call: Call) -> Result<(), String> {
-        let expected = self.theirs.call(call);
-        let answer = answered(&mut self.boxed, |noise| operands(call, noise), &mut self.ours, |ours| by_value(ours, call))?;
-        same("answer", expected, answer.reply())?;
-        same("drops", self.theirs.drops(), self.ours().drops)?;
-        same("contents", self.theirs.contents(), contents(self.ours()))
+    fn step(&mut self, c: Call) -> Result<(), String> {
+        let expected = self.theirs.call(c);
+        same("answer", expected, call(&mut self.ours, c).reply())?;
+        same("drops", self.theirs.drops(), self.ours.ends.drops)?;
+        same("contents", self.theirs.contents(), contents(&self.ours))
     }
 
     fn pick(&self, rng: &mut Rng, bias: usize) -> Call {
@@ -157,13 +137,13 @@ impl Pair for Both {
     }
 
     fn copy(&mut self) -> Self {
-        Both { theirs: self.theirs.copy(), ours: self.ours, boxed: self.boxed.clone() }
+        Both { theirs: self.theirs.copy(), ours: self.ours.clone() }
     }
 
     fn all(&mut self, h: &mut DefaultHasher) {
         self.theirs.all(h);
-        let q = self.ours();
-        (q.c, q.head, q.tail, q.drops, q.tokens).hash(h);
+        let e = self.ours.ends;
+        (e.c, e.head, e.tail, e.drops, self.ours.tokens).hash(h);
     }
 
     fn every(&self) -> Vec<Call> {

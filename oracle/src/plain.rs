@@ -15,6 +15,11 @@ pub const EMPTY: u8 = 0;
 pub const READY: u8 = 1;
 pub const RUNNING: u8 = 2;
 
+/// A flag in memory is a byte: 0 or 1, as a state is one of the four codes, and any other byte is damage.
+fn is_flag(b: u8) -> bool {
+    b < 2
+}
+
 #[derive(Clone, PartialEq, Eq, Debug)]
 pub struct Plain {
     pub n: usize,
@@ -22,7 +27,7 @@ pub struct Plain {
     pub lens: [usize; 2],
     pub currents: [Id; 2],
     pub idles: [Id; 2],
-    pub parked: bool,
+    pub parked: u8,
     pub parked_id: Id,
     pub overwrites: u32,
     pub block_events: u32,
@@ -30,7 +35,7 @@ pub struct Plain {
     pub states: [u8; 64],
     pub epochs: [u16; 64],
     pub homes: [u8; 64],
-    pub marks: [bool; 64],
+    pub marks: [u8; 64],
     pub ring: [Id; 128],
 }
 
@@ -42,7 +47,7 @@ impl Plain {
             lens: [0; 2],
             currents: [(0, 0); 2],
             idles: [(0, 0); 2],
-            parked: false,
+            parked: 0,
             parked_id: (0, 0),
             overwrites: 0,
             block_events: 0,
@@ -50,7 +55,7 @@ impl Plain {
             states: [EMPTY; 64],
             epochs: [0; 64],
             homes: [0; 64],
-            marks: [false; 64],
+            marks: [0; 64],
             ring: [(0, 0); 128],
         }
     }
@@ -71,11 +76,11 @@ impl Plain {
     /// Equal to a table just made; where a ring starts is not compared.
     fn is_fresh(&self) -> bool {
         let slots = 0..self.n;
-        slots.clone().all(|s| self.states[s] == EMPTY && self.epochs[s] == 0 && self.homes[s] == 0 && !self.marks[s])
+        slots.clone().all(|s| self.states[s] == EMPTY && self.epochs[s] == 0 && self.homes[s] == 0 && self.marks[s] == 0)
             && self.lens == [0; 2]
             && self.currents == [(0, 0); 2]
             && self.idles == [(0, 0); 2]
-            && !self.parked
+            && self.parked == 0
             && self.overwrites == 0
             && self.block_events == 0
             && self.peak == 0
@@ -101,13 +106,13 @@ impl Plain {
             && self.known(idle)
             && home(idle)
             && (idle == current || self.queue(cpu).contains(&idle))
-            && !self.marks[idle.0 as usize]
+            && self.marks[idle.0 as usize] == 0
             && if cpu == 0 { idle == (0, 0) } else { idle.0 != 0 }
     }
 
     fn parked_sound(&self) -> bool {
         let (s, e) = (self.parked_id.0 as usize, self.parked_id.1);
-        !self.parked || s != 0 && s < self.n && self.states[s] == EMPTY && e.wrapping_add(1) == self.epochs[s]
+        self.parked == 0 || s != 0 && s < self.n && self.states[s] == EMPTY && e.wrapping_add(1) == self.epochs[s]
     }
 
     fn is_live(&self) -> bool {
@@ -131,6 +136,8 @@ impl Plain {
     pub fn sound(&self) -> bool {
         listed(self.n)
             && self.states[..self.n].iter().all(|&s| s < 4)
+            && self.marks[..self.n].iter().all(|&m| is_flag(m))
+            && is_flag(self.parked)
             && self.heads.iter().all(|&h| h < self.n)
             && (self.is_fresh() || self.is_live())
     }
@@ -150,16 +157,21 @@ fn distinct<T: PartialEq>(all: &[T]) -> bool {
     (0..all.len()).all(|i| !all[..i].contains(&all[i]))
 }
 
-/// "live ids distinct"
-pub fn deadlines_sound(live: &[Id]) -> bool {
-    distinct(live)
+/// "live ids distinct". An entry is its flag and its id.
+pub fn deadlines_sound(entries: &[(u8, Id)]) -> bool {
+    let live: Vec<Id> = entries.iter().filter(|e| e.0 != 0).map(|e| e.1).collect();
+    entries.iter().all(|e| is_flag(e.0)) && distinct(&live)
 }
 
-/// "live cookies distinct, live ids distinct with slot below 64, each mark kept under its own slot"
-pub fn waits_sound(live: &[(u32, Id)], marks: &[Option<Id>]) -> bool {
-    let (cookies, ids): (Vec<u32>, Vec<Id>) = live.iter().copied().unzip();
-    distinct(&cookies)
+/// "live cookies distinct, live ids distinct with slot below 64, each mark kept under its own slot". A waiter is its flag, its cookie
+/// and its id, a mark its flag and its id.
+pub fn waits_sound(waiters: &[(u8, u32, Id)], marks: &[(u8, Id)]) -> bool {
+    let live = waiters.iter().filter(|w| w.0 != 0);
+    let (cookies, ids): (Vec<u32>, Vec<Id>) = live.map(|&(_, cookie, id)| (cookie, id)).unzip();
+    waiters.iter().all(|w| is_flag(w.0))
+        && marks.iter().all(|m| is_flag(m.0))
+        && distinct(&cookies)
         && distinct(&ids)
         && ids.iter().all(|id| id.0 < 64)
-        && marks.iter().enumerate().all(|(slot, mark)| mark.is_none_or(|id| id.0 as usize == slot))
+        && marks.iter().enumerate().all(|(slot, &(set, id))| set == 0 || id.0 as usize == slot)
 }

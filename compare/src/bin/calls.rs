@@ -34,17 +34,16 @@ fn or_say<T>(result: Result<T, String>) -> T {
     or_stop(result.map_err(Difference))
 }
 
-/// Random runs of one kind: every size in turn with every bias, by value and through the mailbox, from fresh tables and late ones.
+/// Random runs of one kind: every size in turn with every bias, from fresh tables and late ones.
 struct Random {
     sizes: Vec<usize>,
-    boxes: bool,
     late: bool,
     turn: usize,
 }
 
 impl Random {
-    fn new(sizes: Vec<usize>, boxes: bool, late: bool) -> Self {
-        Random { sizes, boxes, late, turn: 0 }
+    fn new(sizes: Vec<usize>, late: bool) -> Self {
+        Random { sizes, late, turn: 0 }
     }
 
     /// As many runs as `calls` need.
@@ -53,10 +52,9 @@ impl Random {
         while left > 0 {
             let size = self.sizes[self.turn % self.sizes.len()];
             let bias = rng.below(P::BIASES.len());
-            let boxed = (self.boxes && rng.one_in(4)).then(|| rng.word());
             let late = self.late && rng.one_in(4);
             let length = rng.of(&[30, 100, 300, 1000, 3000]).min(left as usize + 10);
-            let done = or_stop(random::<P>(Setup { size, boxed, late }, bias, length, rng));
+            let done = or_stop(random::<P>(Setup { size, late }, bias, length, rng));
             let started = if late { ", late" } else { "" };
             tally.add(&format!("{} {}{started}", P::NAME, P::BIASES[bias]), done);
             left -= done as i64;
@@ -66,7 +64,7 @@ impl Random {
 }
 
 fn exhausted<P: Pair>(size: usize, budget: u64, tally: &mut Tally) {
-    let setup = Setup { size, boxed: None, late: false };
+    let setup = Setup { size, late: false };
     let (calls, depth, closed) = or_stop(exhaust::<P>(setup, budget));
     let size = if size > 0 { format!(" of {size}") } else { String::new() };
     let end = if closed { "every table that its calls reach".into() } else { format!("all sequences of {depth}") };
@@ -106,11 +104,11 @@ fn main() {
     exhausted::<waits::Both>(0, goal / 100, &mut tally);
     exhausted::<deadlines::Both>(0, goal / 100, &mut tally);
 
-    let mut of_tasks = Random::new((1..=64).collect(), true, true);
-    let mut of_wakes = Random::new(WAKE_SIZES.to_vec(), true, true);
-    let mut of_waits = Random::new(vec![0], true, false);
-    let mut of_deadlines = Random::new(vec![0], true, false);
-    let mut of_rings = Random::new((1..=64).collect(), false, false);
+    let mut of_tasks = Random::new((1..=64).collect(), true);
+    let mut of_wakes = Random::new(WAKE_SIZES.to_vec(), true);
+    let mut of_waits = Random::new(vec![0], false);
+    let mut of_deadlines = Random::new(vec![0], false);
+    let mut of_rings = Random::new((1..=64).collect(), false);
     let mut round = 0;
     while round < 2 || tally.total() < goal {
         of_tasks.runs::<tasks::Both>(200_000, &mut rng, &mut tally);
@@ -122,7 +120,7 @@ fn main() {
     }
     let wraps: &[(usize, u8)] = if goal > 10_000_000 { &[(2, 0), (3, 0), (3, 1), (57, 0), (64, 1)] } else { &[(2, 0)] };
     for &(size, cpu) in wraps {
-        let setup = Setup { size, boxed: None, late: false };
+        let setup = Setup { size, late: false };
         tally.add("task table epoch wrap", or_stop(scripted::<tasks::Both>(setup, tasks::wrap(size, cpu))));
     }
 

@@ -31,7 +31,7 @@ module _ (currents idles : List TaskId) where
   unfolding notesAt
   off-step k w e = rw e
 
-module _ (states epochs homes : List ℕ) (marks : List Bool) (n : ℕ) (currents idles : List TaskId) (w : List ℕ) (fit : n ≤ length w) where
+module _ (states epochs homes marks : List ℕ) (n : ℕ) (currents idles : List TaskId) (w : List ℕ) (fit : n ≤ length w) where
   abbrev at : ℕ → List ℕ
   at k = cpusNotes currents idles k w
 

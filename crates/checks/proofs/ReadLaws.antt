@@ -15,6 +15,8 @@ use Rattle.lists.specs.Search.{countOf, one-if}
 use Rattle.lists.specs.Entries.{Holds}
 use Rattle.lists.proofs.Basics.{not-both, both-true}
 use Rattle.lists.proofs.TabLaws.{length-tab, getD-tab}
+use Rattle.lists.specs.Flags.{FLAGS, isSet}
+use Rattle.lists.proofs.FlagLaws.{set-off, set-on}
 use Rattle.ids.specs.declared.TaskId.{TaskId}
 use Rattle.ids.specs.Id.{EPOCHS, sameId, idle}
 use Rattle.ids.proofs.IdLaws.{same-eq}
@@ -25,12 +27,7 @@ use Rattle.memory.specs.declared.Tasks.{Tasks}
 use Rattle.memory.specs.View.{view}
 use Rattle.memory.proofs.ViewLaws.{view-n, view-state, view-epoch, view-home, view-idle}
 use Rattle.memory.proofs.RingStores.{view-queue}
-use Rattle.checks.specs.declared.Small.{Small}
-use Rattle.checks.specs.Parts.{Homed, entries, isOn, occupiedIn, ParkedFits}
-
--- a table without its long arrays
-abbrev pub restOf : Tasks → Small
-restOf t = record { n = t .n; heads = t .heads; lens = t .lens; currents = t .currents; idles = t .idles; parked = t .parked; «parked_id» = t .«parked_id»; overwrites = t .overwrites; «block_events» = t .«block_events»; peak = t .peak }
+use Rattle.checks.specs.Parts.{Homed, entries, isOn, occupiedIn, ParkFits}
 
 -- TESTS OF THE MODEL
 
@@ -73,42 +70,50 @@ take-tab {A} n l d h =
 -- READING
 
 module _ (t : Tasks) where
-  pub queue-tab : (c : ℕ) → c < CPUS → queueOf (view t) c ≡ tab (getD (t .lens) c 0) (entries (t .«ring_slots») (t .«ring_epochs») (t .n) (t .heads) c)
+  pub queue-tab : (c : ℕ) → c < CPUS → queueOf (view t) c ≡ tab (getD (t .small .lens) c 0) (entries (t .«ring_slots») (t .«ring_epochs») (t .small .n) (t .small .heads) c)
   unfolding around
   queue-tab c h = view-queue t c h
 
-  pub homed-known : (c : ℕ) (id : TaskId) → Homed (t .epochs) (t .homes) (t .n) c id → Known (view t) id
+  pub homed-known : (c : ℕ) (id : TaskId) → Homed (t .epochs) (t .homes) (t .small .n) c id → Known (view t) id
   homed-known c id h = record { slot = rw (view-n t) (h .slot); epoch = view-epoch t (id .slot) (h .slot) ∙ h .epoch }
 
-  pub homed-home : (c : ℕ) (id : TaskId) → Homed (t .epochs) (t .homes) (t .n) c id → homeOf (view t) (id .slot) ≡ c
+  pub homed-home : (c : ℕ) (id : TaskId) → Homed (t .epochs) (t .homes) (t .small .n) c id → homeOf (view t) (id .slot) ≡ c
   homed-home c id h = view-home t (id .slot) (h .slot) ∙ h .home
 
-  pub known-homed : (c : ℕ) (id : TaskId) → Known (view t) id → homeOf (view t) (id .slot) ≡ c → Homed (t .epochs) (t .homes) (t .n) c id
+  pub known-homed : (c : ℕ) (id : TaskId) → Known (view t) id → homeOf (view t) (id .slot) ≡ c → Homed (t .epochs) (t .homes) (t .small .n) c id
   known-homed c id k h =
-      let s : id .slot < t .n = rw (view-n t) at (k .slot) in
+      let s : id .slot < t .small .n = rw (view-n t) at (k .slot) in
       record { slot = s; epoch = sym (view-epoch t (id .slot) s) ∙ k .epoch; home = sym (view-home t (id .slot) s) ∙ h }
 
   -- the occupied slots, counted one by one
-  pub occupied-is : t .n ≤ length (t .states) → occupied (view t) ≡ occupiedIn (t .states) (t .n)
+  pub occupied-is : t .small .n ≤ length (t .states) → occupied (view t) ≡ occupiedIn (t .states) (t .small .n)
   unfolding view
-  occupied-is h = ap (countOf (λ s. not (eqb s EMPTY))) (take-tab (t .n) (t .states) 0 h)
+  occupied-is h = ap (countOf (λ s. not (eqb s EMPTY))) (take-tab (t .small .n) (t .states) 0 h)
 
   -- in a started table a CPU is started as its idle says
-  pub started-is : 1 ≤ t .n → (getD (t .states) 0 0 ≡ EMPTY → ⊥) → (c : ℕ) → c < CPUS → startedOn (view t) c ≡ isOn c (getD (t .idles) c idle)
+  pub started-is : 1 ≤ t .small .n → (getD (t .states) 0 0 ≡ EMPTY → ⊥) → (c : ℕ) → c < CPUS → startedOn (view t) c ≡ isOn c (getD (t .small .idles) c idle)
   started-is least on c h =
       rw (ne-eqb (stateOf (view t) 0) EMPTY (λ e. on (sym (view-state t 0 least) ∙ e)), view-idle t c h)
 
 -- THE PARKED ID
 
 module _ (t : Tasks) (id : TaskId) where
-  pub parked-ok : (b : Bool) → id .epoch < EPOCHS → (b ≡ true → ParkedFits (t .states) (t .epochs) (t .n) id) → Holds (ParkedOk (view t)) (cond b (some id) none)
-  parked-ok false last f = tt
-  parked-ok true last f =
-      let p = f refl in
-      record { slot = rw (view-n t) (p .slot); other = p .other; state = view-state t (id .slot) (p .slot) ∙ p .state; fits = last; epoch = p .epoch ∙ sym (view-epoch t (id .slot) (p .slot)) }
+  pub parked-ok : (b : ℕ) → id .epoch < EPOCHS → ParkFits (t .states) (t .epochs) (t .small .n) b id → Holds (ParkedOk (view t)) (cond (isSet b) (some id) none)
+  parked-ok b last f =
+      elim (ℕ-discrete b 0) [
+        | yes e ↦ rw (set-off b e) tt
+        | no e ↦
+            let p = f .fits e in
+            rw (set-on b e)
+            (record { slot = rw (view-n t) (p .slot); other = p .other; state = view-state t (id .slot) (p .slot) ∙ p .state; fits = last; epoch = p .epoch ∙ sym (view-epoch t (id .slot) (p .slot)) })
+      ]
 
-  pub parked-fits : (b : Bool) → Holds (ParkedOk (view t)) (cond b (some id) none) → b ≡ true → ParkedFits (t .states) (t .epochs) (t .n) id
-  parked-fits false o e = absurd (not-both e refl)
-  parked-fits true o e =
-      let h : id .slot < t .n = rw (view-n t) at (o .slot) in
-      record { slot = h; other = o .other; state = sym (view-state t (id .slot) h) ∙ o .state; epoch = o .epoch ∙ view-epoch t (id .slot) h }
+  pub parked-fits : (b : ℕ) → b < FLAGS → Holds (ParkedOk (view t)) (cond (isSet b) (some id) none) → ParkFits (t .states) (t .epochs) (t .small .n) b id
+  parked-fits b l o =
+      record {
+        flag = l;
+        fits = λ e.
+            let p = rw (set-on b e) at o in
+            let h : id .slot < t .small .n = rw (view-n t) at (p .slot) in
+            record { slot = h; other = p .other; state = sym (view-state t (id .slot) h) ∙ p .state; epoch = p .epoch ∙ view-epoch t (id .slot) h };
+      }

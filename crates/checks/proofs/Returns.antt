@@ -5,8 +5,8 @@ use mathlib.Core.Logic.{inl, inr, ⊎-elim}
 use mathlib.Core.List.{List}
 use Prim.Native.Nat.{ℕ, _+_, _*_, _≤_, _<_}
 use native.Mathlib.Omega.{arith}
-use borrow.Author.Tests.{eqb-true, eqb-false, eq-eqb, ne-eqb, lt-leb, leb-false, not-false}
-use lib.Dec.{eqb, leb}
+use borrow.Author.Tests.{eqb-true, eqb-false, eq-eqb, ne-eqb, lt-leb, leb-false, le-ltb, ltb-false, not-false}
+use lib.Dec.{eqb, leb, ltb}
 use lib.ListN.{getD, set}
 use Rattle.lists.specs.Search.{one-if}
 use Rattle.lists.specs.Tells.{Tells}
@@ -19,7 +19,7 @@ use Rattle.model.specs.Model.{CPUS, STATES, EMPTY, READY, RUNNING, bump}
 use Rattle.model.specs.Sound.{Active}
 use Rattle.memory.specs.View.{SPAN}
 use Rattle.checks.specs.Walk.{Notes}
-use Rattle.checks.specs.Parts.{RingsFit, asked, Misfits, noted, Homed, Free, entryAt, isOn, IdleFits, OnFits, CpuFits, cpuNotes, SlotFits, ParkedFits}
+use Rattle.checks.specs.Parts.{RingsFit, asked, Misfits, noted, Homed, Free, entryAt, isOn, IdleFits, OnFits, CpuFits, cpuNotes, SlotFits, ParkFits}
 use Rattle.checks.proofs.WalkLaws.{notes-yes, notes-no}
 use Rattle.checks.proofs.SlotLaws.{one-most, one-zero}
 
@@ -60,17 +60,17 @@ entry-noted epochs homes slots tenures n c head j at want e g = rw e at g
 
 -- ONE CPU
 
-module _ {states epochs homes : List ℕ} {marks : List Bool} {n c : ℕ} {id : TaskId} where
+module _ {states epochs homes marks : List ℕ} {n c : ℕ} {id : TaskId} where
   pub idle-away : (Homed epochs homes n c id → ⊥) → Tells false (IdleFits states epochs homes marks n c id)
   idle-away out = tells-no (λ f. out (f .homed))
 
   module _ {s : ℕ} (e : s ≡ id .slot) where
-    pub idle-marked : getD marks s false ≡ true → Tells false (IdleFits states epochs homes marks n c id)
-    idle-marked y = tells-no (λ f. not-both y (ap (λ i. getD marks i false) e ∙ f .mark))
+    pub idle-marked : (getD marks s 0 ≡ 0 → ⊥) → Tells false (IdleFits states epochs homes marks n c id)
+    idle-marked y = tells-no (λ f. y (ap (λ i. getD marks i 0) e ∙ f .mark))
 
-    module _ (h : Homed epochs homes n c id) (m : getD marks s false ≡ false) where
+    module _ (h : Homed epochs homes n c id) (m : getD marks s 0 ≡ 0) where
       idle-yes : Active (getD states s 0) → IdleFits states epochs homes marks n c id
-      idle-yes a = record { homed = h; mark = ap (λ i. getD marks i false) (sym e) ∙ m; active = rw e at a }
+      idle-yes a = record { homed = h; mark = ap (λ i. getD marks i 0) (sym e) ∙ m; active = rw e at a }
 
       pub idle-ready : getD states s 0 ≡ READY → Tells true (IdleFits states epochs homes marks n c id)
       idle-ready r = tells-yes (idle-yes (inl r))
@@ -81,7 +81,7 @@ module _ {states epochs homes : List ℕ} {marks : List Bool} {n c : ℕ} {id : 
           (λ y f.
           ⊎-elim (λ r. ne (ap (λ i. getD states i 0) e ∙ r)) (λ r. eqb-false (getD states s 0) RUNNING y (ap (λ i. getD states i 0) e ∙ r)) (f .active))
 
-module _ {states epochs homes : List ℕ} {marks : List Bool} {n c : ℕ} {who own : TaskId} {want : List ℕ} where
+module _ {states epochs homes marks : List ℕ} {n c : ℕ} {who own : TaskId} {want : List ℕ} where
   pub on-busy : {v u : List ℕ} → (Free epochs homes n c who want → ⊥) → Notes false (OnFits states epochs homes marks n c who own want) v u
   on-busy out = notes-no (λ f. out (f .current))
 
@@ -124,52 +124,62 @@ module _ {states epochs homes : List ℕ} {marks : List Bool} {n c : ℕ} {who o
 
 -- ONE SLOT
 
-module _ {s h w a x y z : ℕ} (ea : a ≡ asked s) (ex : x ≡ one-if (leb STATES s)) (ey : y ≡ one-if (leb CPUS h)) (ez : z ≡ one-if (not (eqb a w))) where
-  fits-zero : SlotFits s h w → x + y + z ≡ 0
+module _ {s h m w a x y k z : ℕ} (ea : a ≡ asked s) (ex : x ≡ one-if (leb STATES s)) (ey : y ≡ one-if (leb CPUS h)) (ek : k ≡ one-if (ltb 1 m)) (ez : z ≡ one-if (not (eqb a w))) where
+  fits-zero : SlotFits s h m w → x + y + k + z ≡ 0
   fits-zero f =
       let p : x ≡ 0 = ex ∙ rw (lt-leb STATES s (f .state)) in
       let q : y ≡ 0 = ey ∙ rw (lt-leb CPUS h (f .home)) in
+      let p2 : k ≡ 0 = ek ∙ rw (le-ltb 1 m (omega (arith, f .mark))) in
       let r : z ≡ 0 = ez ∙ rw (eq-eqb a w (ea ∙ sym (f .note))) in
       omega arith
 
-  zero-fits : x + y + z ≡ 0 → SlotFits s h w
+  zero-fits : x + y + k + z ≡ 0 → SlotFits s h m w
   zero-fits e =
       record {
         state = leb-false STATES s (one-zero (leb STATES s) (omega arith));
         home = leb-false CPUS h (one-zero (leb CPUS h) (omega arith));
+        mark = omega (arith, ltb-false 1 m (one-zero (ltb 1 m) (omega arith)));
         note = sym (eqb-true a w (not-false (eqb a w) (one-zero (not (eqb a w)) (omega arith)))) ∙ ea;
       }
 
-  pub misfits-sum : Misfits s h w (x + y + z)
+  pub misfits-sum : Misfits s h m w (x + y + k + z)
   misfits-sum =
       record {
-        tells = tells-by (eqb (x + y + z) 0) (λ e. zero-fits (eqb-true (x + y + z) 0 e)) (λ e f. eqb-false (x + y + z) 0 e (fits-zero f));
-        most = omega (arith, one-most (leb STATES s), one-most (leb CPUS h), one-most (not (eqb a w)));
+        tells = tells-by (eqb (x + y + k + z) 0) (λ e. zero-fits (eqb-true (x + y + k + z) 0 e)) (λ e f. eqb-false (x + y + k + z) 0 e (fits-zero f));
+        most = omega (arith, one-most (leb STATES s), one-most (leb CPUS h), one-most (ltb 1 m), one-most (not (eqb a w)));
       }
 
 -- THE PARKED ID
 
-pub parked-none : {P : Type 0} {b : Bool} → b ≡ false → Tells true (b ≡ true → P)
-parked-none e = tells-yes (λ y. absurd (not-both y e))
+module _ {states epochs : List ℕ} {n : ℕ} {id : TaskId} {b : ℕ} where
+  pub parked-none : b ≡ 0 → Tells true (ParkFits states epochs n b id)
+  parked-none e = tells-yes (record { flag = omega arith; fits = λ ne. absurd (ne e) })
 
-module _ {states epochs : List ℕ} {n : ℕ} {id : TaskId} {b : Bool} (on : b ≡ true) {s : ℕ} (e : s ≡ id .slot) where
-  pub parked-zero : s ≡ 0 → Tells false (b ≡ true → ParkedFits states epochs n id)
-  parked-zero z = tells-no (λ f. f on .other (sym e ∙ z))
+  pub parked-wild : (b ≡ 0 → ⊥) → (b ≡ 1 → ⊥) → Tells false (ParkFits states epochs n b id)
+  parked-wild n0 n1 = tells-no (λ f. omega (arith, f .flag))
 
-  pub parked-outside : n ≤ s → Tells false (b ≡ true → ParkedFits states epochs n id)
-  parked-outside h = tells-no (λ f. omega (arith, f on .slot))
+  module _ (on : b ≡ 0 → ⊥) (one : b ≡ 1) {s : ℕ} (e : s ≡ id .slot) where
+    pub parked-zero : s ≡ 0 → Tells false (ParkFits states epochs n b id)
+    parked-zero z = tells-no (λ f. f .fits on .other (sym e ∙ z))
 
-  pub parked-used : (getD states s 0 ≡ EMPTY → ⊥) → Tells false (b ≡ true → ParkedFits states epochs n id)
-  parked-used ne = tells-no (λ f. ne (ap (λ i. getD states i 0) e ∙ f on .state))
+    pub parked-outside : n ≤ s → Tells false (ParkFits states epochs n b id)
+    parked-outside h = tells-no (λ f. omega (arith, f .fits on .slot))
 
-  pub parked-by : {x : ℕ} → (s ≡ 0 → ⊥) → s < n → getD states s 0 ≡ EMPTY → x ≡ bump (id .epoch) → Tells (eqb x (getD epochs s 0)) (b ≡ true → ParkedFits states epochs n id)
-  parked-by {x} nz l z q =
-      tells-by (eqb x (getD epochs s 0))
-      (λ y _.
-      record {
-        slot = omega arith;
-        other = λ o. nz (e ∙ o);
-        state = ap (λ i. getD states i 0) (sym e) ∙ z;
-        epoch = sym q ∙ eqb-true x (getD epochs s 0) y ∙ ap (λ i. getD epochs i 0) e;
-      })
-      (λ y f. eqb-false x (getD epochs s 0) y (q ∙ f on .epoch ∙ ap (λ i. getD epochs i 0) (sym e)))
+    pub parked-used : (getD states s 0 ≡ EMPTY → ⊥) → Tells false (ParkFits states epochs n b id)
+    parked-used ne = tells-no (λ f. ne (ap (λ i. getD states i 0) e ∙ f .fits on .state))
+
+    pub parked-by : {x : ℕ} → (s ≡ 0 → ⊥) → s < n → getD states s 0 ≡ EMPTY → x ≡ bump (id .epoch) → Tells (eqb x (getD epochs s 0)) (ParkFits states epochs n b id)
+    parked-by {x} nz l z q =
+        tells-by (eqb x (getD epochs s 0))
+        (λ y.
+        record {
+          flag = omega arith;
+          fits = λ _.
+              record {
+                slot = omega arith;
+                other = λ o. nz (e ∙ o);
+                state = ap (λ i. getD states i 0) (sym e) ∙ z;
+                epoch = sym q ∙ eqb-true x (getD epochs s 0) y ∙ ap (λ i. getD epochs i 0) e;
+              };
+        })
+        (λ y f. eqb-false x (getD epochs s 0) y (q ∙ f .fits on .epoch ∙ ap (λ i. getD epochs i 0) (sym e)))

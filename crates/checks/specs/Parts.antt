@@ -7,6 +7,7 @@ use mathlib.Core.List.{List}
 use Prim.Native.Nat.{ℕ, _+_, _*_, _≤_, _<_}
 use lib.ListN.{getD, set, replicate}
 use lib.Dec.{eqb}
+use Rattle.lists.specs.Flags.{FLAGS}
 use Rattle.lists.specs.Tells.{Tells}
 use Rattle.lists.specs.Tab.{tab}
 use Rattle.lists.specs.Search.{countOf}
@@ -15,15 +16,10 @@ use Rattle.ids.specs.Id.{sameId, idle}
 use Rattle.runqueue.specs.Ring.{placed, idAt}
 use Rattle.model.specs.Model.{MOST, CPUS, STATES, EMPTY, READY, RUNNING, BLOCKED, bump}
 use Rattle.model.specs.Sound.{Active}
-use Rattle.memory.specs.declared.Tasks.{Tasks}
+use Rattle.memory.specs.declared.Small.{Small}
 use Rattle.memory.specs.View.{SPAN}
-use Rattle.checks.specs.declared.Small.{Small}
 use Rattle.checks.specs.declared.Slots.{Slots}
 use Rattle.checks.specs.Walk.{notesAt, Passes}
-
--- the table from its long arrays and the rest
-abbrev pub whole : List ℕ → List ℕ → List ℕ → List Bool → List ℕ → List ℕ → Small → Tasks
-whole states epochs homes marks slots tenures s = record { n = s .n; heads = s .heads; lens = s .lens; currents = s .currents; idles = s .idles; parked = s .parked; «parked_id» = s .«parked_id»; overwrites = s .overwrites; «block_events» = s .«block_events»; peak = s .peak; states = states; epochs = epochs; homes = homes; marks = marks; «ring_slots» = slots; «ring_epochs» = tenures }
 
 -- N listed; head and length of each ring
 pub record RingsFit (n : ℕ) (heads lens : List ℕ) : Type 0 where
@@ -81,18 +77,18 @@ queuesNotes q lens k want = notesAt (λ c. queueNotes (q c) (getD lens c 0)) k w
 abbrev pub isOn : ℕ → TaskId → Bool
 isOn c own = cond (eqb c 0) true (not (sameId own idle))
 
-pub record IdleFits (states epochs homes : List ℕ) (marks : List Bool) (n c : ℕ) (id : TaskId) : Type 0 where
+pub record IdleFits (states epochs homes marks : List ℕ) (n c : ℕ) (id : TaskId) : Type 0 where
   pub homed : Homed epochs homes n c id
-  pub mark : getD marks (id .slot) false ≡ false
+  pub mark : getD marks (id .slot) 0 ≡ 0
   pub active : Active (getD states (id .slot) 0)
 
 -- a started CPU: its current is free, and noted as Running
-pub record OnFits (states epochs homes : List ℕ) (marks : List Bool) (n c : ℕ) (who own : TaskId) (want : List ℕ) : Type 0 where
+pub record OnFits (states epochs homes marks : List ℕ) (n c : ℕ) (who own : TaskId) (want : List ℕ) : Type 0 where
   pub current : Free epochs homes n c who want
   pub idle : IdleFits states epochs homes marks n c own
 
 -- one that is not started has no current
-pub record CpuFits (states epochs homes : List ℕ) (marks : List Bool) (n c : ℕ) (who own : TaskId) (want : List ℕ) : Type 0 where
+pub record CpuFits (states epochs homes marks : List ℕ) (n c : ℕ) (who own : TaskId) (want : List ℕ) : Type 0 where
   pub first : c ≡ 0 → own ≡ idle
   pub on : isOn c own ≡ true → OnFits states epochs homes marks n c who own want
   pub off : isOn c own ≡ false → who ≡ idle
@@ -101,7 +97,7 @@ abbrev pub cpuNotes : ℕ → TaskId → TaskId → List ℕ → List ℕ
 cpuNotes c who own want = cond (isOn c own) (noted RUNNING who want) want
 
 -- the first k CPUs
-abbrev pub CpusFit : List ℕ → List ℕ → List ℕ → List Bool → ℕ → List TaskId → List TaskId → ℕ → List ℕ → Type 0
+abbrev pub CpusFit : List ℕ → List ℕ → List ℕ → List ℕ → ℕ → List TaskId → List TaskId → ℕ → List ℕ → Type 0
 CpusFit states epochs homes marks n currents idles k want =
     Passes (λ c. CpuFits states epochs homes marks n c (getD currents c idle) (getD idles c idle)) (λ c. cpuNotes c (getD currents c idle) (getD idles c idle)) k want
 
@@ -114,22 +110,23 @@ cpusNotes currents idles k want = notesAt (λ c. cpuNotes c (getD currents c idl
 abbrev pub asked : ℕ → ℕ
 asked state = cond (eqb state BLOCKED) EMPTY state
 
-pub record SlotFits (s h w : ℕ) : Type 0 where
+pub record SlotFits (s h m w : ℕ) : Type 0 where
   pub state : s < STATES
   pub home : h < CPUS
+  pub mark : m < FLAGS
   pub note : w ≡ asked s
 
 -- r counts what is wrong with it
-pub record Misfits (s h w r : ℕ) : Type 0 where
-  pub tells : Tells (eqb r 0) (SlotFits s h w)
-  pub most : r ≤ 3
+pub record Misfits (s h m w r : ℕ) : Type 0 where
+  pub tells : Tells (eqb r 0) (SlotFits s h m w)
+  pub most : r ≤ 4
 
 -- how many of the first n slots are not Empty
 abbrev pub occupiedIn : List ℕ → ℕ → ℕ
 occupiedIn states n = countOf (λ s. not (eqb s EMPTY)) (tab n (λ i. getD states i 0))
 
-pub record SlotsFit (states homes want : List ℕ) (n : ℕ) (r : Slots) : Type 0 where
-  pub tells : Tells (r .good) ((i : ℕ) → i < n → SlotFits (getD states i 0) (getD homes i 0) (getD want i 0))
+pub record SlotsFit (states homes marks want : List ℕ) (n : ℕ) (r : Slots) : Type 0 where
+  pub tells : Tells (r .good) ((i : ℕ) → i < n → SlotFits (getD states i 0) (getD homes i 0) (getD marks i 0) (getD want i 0))
   pub used : r .used ≡ occupiedIn states n
 
 -- THE REST
@@ -140,22 +137,27 @@ pub record ParkedFits (states epochs : List ℕ) (n : ℕ) (id : TaskId) : Type 
   pub state : getD states (id .slot) 0 ≡ EMPTY
   pub epoch : bump (id .epoch) ≡ getD epochs (id .slot) 0
 
+-- a flag, and a parked id where it is set
+pub record ParkFits (states epochs : List ℕ) (n parked : ℕ) (id : TaskId) : Type 0 where
+  pub flag : parked < FLAGS
+  pub fits : (parked ≡ 0 → ⊥) → ParkedFits states epochs n id
+
 -- a table that is started: its parts fit one after another, each on the notes of those before it
-pub record LiveFits (states epochs homes : List ℕ) (marks : List Bool) (slots tenures : List ℕ) (t : Small) : Type 0 where
+pub record LiveFits (states epochs homes marks slots tenures : List ℕ) (t : Small) : Type 0 where
   pub queues : QueuesFit epochs homes (t .n) (entries slots tenures (t .n) (t .heads)) (t .lens) CPUS noNotes
   pub cpus : CpusFit states epochs homes marks (t .n) (t .currents) (t .idles) CPUS (queuesNotes (entries slots tenures (t .n) (t .heads)) (t .lens) CPUS noNotes)
-  pub each : (i : ℕ) → i < t .n → SlotFits (getD states i 0) (getD homes i 0) (getD (cpusNotes (t .currents) (t .idles) CPUS (queuesNotes (entries slots tenures (t .n) (t .heads)) (t .lens) CPUS noNotes)) i 0)
-  pub parked : t .parked ≡ true → ParkedFits states epochs (t .n) (t .«parked_id»)
+  pub each : (i : ℕ) → i < t .n → SlotFits (getD states i 0) (getD homes i 0) (getD marks i 0) (getD (cpusNotes (t .currents) (t .idles) CPUS (queuesNotes (entries slots tenures (t .n) (t .heads)) (t .lens) CPUS noNotes)) i 0)
+  pub parked : ParkFits states epochs (t .n) (t .parked) (t .«parked_id»)
   pub low : occupiedIn states (t .n) ≤ t .peak
   pub high : t .peak ≤ t .n
 
 -- A TABLE JUST MADE
 
-pub record SlotBlank (states epochs homes : List ℕ) (marks : List Bool) (i : ℕ) : Type 0 where
+pub record SlotBlank (states epochs homes marks : List ℕ) (i : ℕ) : Type 0 where
   pub state : getD states i 0 ≡ EMPTY
   pub epoch : getD epochs i 0 ≡ 0
   pub home : getD homes i 0 ≡ 0
-  pub mark : getD marks i false ≡ false
+  pub mark : getD marks i 0 ≡ 0
 
 pub record CpuBlank (lens : List ℕ) (currents idles : List TaskId) (c : ℕ) : Type 0 where
   pub len : getD lens c 0 ≡ 0
@@ -163,10 +165,10 @@ pub record CpuBlank (lens : List ℕ) (currents idles : List TaskId) (c : ℕ) :
   pub idle : getD idles c idle ≡ idle
 
 -- of a table whose arrays are these
-pub record FreshFits (states epochs homes : List ℕ) (marks : List Bool) (t : Small) : Type 0 where
+pub record FreshFits (states epochs homes marks : List ℕ) (t : Small) : Type 0 where
   pub slots : (i : ℕ) → i < t .n → SlotBlank states epochs homes marks i
   pub cpus : (c : ℕ) → c < CPUS → CpuBlank (t .lens) (t .currents) (t .idles) c
-  pub parked : t .parked ≡ false
+  pub parked : t .parked ≡ 0
   pub overwrites : t .overwrites ≡ 0
   pub events : t .«block_events» ≡ 0
   pub peak : t .peak ≡ 0

@@ -5,35 +5,22 @@ ghost use mathlib.Core.Bool.{Bool, true};
 ghost use Prim.Native.Nat.{ℕ, _≤_, _<_};
 ghost use lib.Dec.{eqb};
 ghost use lib.ListN.{getD};
-ghost use Rattle.lists.specs.Search.{one-if};
 ghost use Rattle.lists.specs.Tells.{Tells};
 ghost use Rattle.ids.specs.Id.{EPOCHS};
 ghost use Rattle.runqueue.specs.Ring.{Fit};
 ghost use Rattle.model.specs.Model.{MOST, CPUS, RUNNING};
 ghost use Rattle.memory.specs.View.{Sound};
+ghost use Rattle.memory.specs.Lent.{was};
 ghost use Rattle.checks.specs.Walk.{Notes};
-ghost use Rattle.checks.specs.Parts.{whole, RingsFit, noted, Homed, Free, entryAt, entries, QueueFits, queueNotes, QueuesFit, queuesNotes, IdleFits, OnFits, CpuFits, cpuNotes, CpusFit, cpusNotes, asked, Misfits, SlotsFit, ParkedFits, LiveFits, SlotBlank, CpuBlank, FreshFits};
+ghost use Rattle.checks.specs.Parts.{RingsFit, noted, Homed, Free, entryAt, entries, QueueFits, queueNotes, QueuesFit, queuesNotes, IdleFits, OnFits, CpuFits, cpuNotes, CpusFit, cpusNotes, asked, Misfits, SlotsFit, ParkFits, LiveFits, SlotBlank, CpuBlank, FreshFits};
 use ids::TaskId;
+use memory::Small;
 use memory::Tasks;
 
 // How many states there are, and how many homes: one for each CPU.
 const STATES: u8 = 4;
 
 const HOMES: u8 = 2;
-
-// The table without its long arrays.
-pub struct Small {
-    pub n: usize,
-    pub heads: [usize; 2],
-    pub lens: [usize; 2],
-    pub currents: [TaskId; 2],
-    pub idles: [TaskId; 2],
-    pub parked: bool,
-    pub parked_id: TaskId,
-    pub overwrites: u32,
-    pub block_events: u32,
-    pub peak: u32,
-}
 
 // Whether every slot is as it should be, and how many are not Empty.
 struct Slots {
@@ -157,7 +144,7 @@ fn idle_fits<'a>(
     states: &'a [u8; 64],
     epochs: &'a [u16; 64],
     homes: &'a [u8; 64],
-    marks: &'a [bool; 64],
+    marks: &'a [u8; 64],
     n: usize,
     c: usize,
     id: TaskId,
@@ -169,7 +156,7 @@ fn idle_fits<'a>(
         return false;
     }
     let s = id.slot();
-    if marks[s] {
+    if marks[s] != 0 {
         return false;
     }
     if states[s] == memory::READY {
@@ -183,7 +170,7 @@ fn on_fits<'a>(
     states: &'a [u8; 64],
     epochs: &'a [u16; 64],
     homes: &'a [u8; 64],
-    marks: &'a [bool; 64],
+    marks: &'a [u8; 64],
     want: &mut [u8; 64],
     n: usize,
     c: usize,
@@ -203,7 +190,7 @@ fn cpu_fits<'a>(
     states: &'a [u8; 64],
     epochs: &'a [u16; 64],
     homes: &'a [u8; 64],
-    marks: &'a [bool; 64],
+    marks: &'a [u8; 64],
     want: &mut [u8; 64],
     n: usize,
     c: usize,
@@ -230,7 +217,7 @@ fn cpus_fit<'a>(
     states: &'a [u8; 64],
     epochs: &'a [u16; 64],
     homes: &'a [u8; 64],
-    marks: &'a [bool; 64],
+    marks: &'a [u8; 64],
     want: &mut [u8; 64],
     n: usize,
     currents: [TaskId; 2],
@@ -251,12 +238,6 @@ fn cpus_fit<'a>(
     true
 }
 
-fn flag(b: bool) -> u8
-    ensures { λ r. ⌜ (r ≡ one-if b) × (r ≤ 1) ⌝ }
-{
-    if b { 1 } else { 0 }
-}
-
 // What has to be noted of a slot in a state: of one that is Blocked nothing, as of an Empty one.
 fn note_for(state: u8) -> u8
     ensures { λ r. ⌜ r ≡ asked state ⌝ }
@@ -268,24 +249,34 @@ fn note_for(state: u8) -> u8
     }
 }
 
-// How many tests a slot fails. The sum of these is quicker than a way out of the loop at the first.
-fn misfits(state: u8, home: u8, note: u8) -> u8
-    ensures { λ r. ⌜ Misfits state home note r ⌝ }
+// How many tests a slot fails.
+fn misfits(state: u8, home: u8, mark: u8, note: u8) -> u8
+    ensures { λ r. ⌜ Misfits state home mark note r ⌝ }
 {
-    flag(STATES <= state) + flag(HOMES <= home) + flag(note_for(state) != note)
+    memory::flag(STATES <= state)
+        + memory::flag(HOMES <= home)
+        + memory::flag(1 < mark)
+        + memory::flag(note_for(state) != note)
 }
 
-fn slots_fit<'a>(states: &'a [u8; 64], homes: &'a [u8; 64], want: &'a [u8; 64], n: usize) -> Slots
+fn slots_fit<'a>(
+    states: &'a [u8; 64],
+    homes: &'a [u8; 64],
+    marks: &'a [u8; 64],
+    want: &'a [u8; 64],
+    n: usize,
+) -> Slots
     requires { ⌜ n ≤ MOST ⌝ }
-    ensures { λ r. ⌜ SlotsFit (now (states .entry)) (now (homes .entry)) (now (want .entry)) n r ⌝ }
+    ensures { λ r. ⌜ SlotsFit (now (states .entry)) (now (homes .entry)) (now (marks .entry)) (now (want .entry)) n r ⌝ }
 {
+    // a count of the slots that fail is quicker than a way out of the loop at the first
     let mut bad: u8 = 0;
     let mut used: u8 = 0;
     let mut i: usize = 0;
     while i < n {
         let state = states[i];
-        bad = bad + misfits(state, homes[i], want[i]);
-        used = used + flag(state != memory::EMPTY);
+        bad = bad + memory::flag(misfits(state, homes[i], marks[i], want[i]) != 0);
+        used = used + memory::flag(state != memory::EMPTY);
         i = i + 1;
     }
     Slots {
@@ -298,14 +289,17 @@ fn parked_fits<'a>(
     states: &'a [u8; 64],
     epochs: &'a [u16; 64],
     n: usize,
-    parked: bool,
+    parked: u8,
     id: TaskId,
 ) -> bool
     requires { ⌜ n ≤ MOST ⌝ }
-    ensures { λ r. ⌜ Tells r (parked ≡ true → ParkedFits (now (states .entry)) (now (epochs .entry)) n id) ⌝ }
+    ensures { λ r. ⌜ Tells r (ParkFits (now (states .entry)) (now (epochs .entry)) n parked id) ⌝ }
 {
-    if !parked {
+    if parked == 0 {
         return true;
+    }
+    if parked != 1 {
+        return false;
     }
     let s = id.slot();
     if s == 0 {
@@ -325,7 +319,7 @@ fn is_live<'a>(
     states: &'a [u8; 64],
     epochs: &'a [u16; 64],
     homes: &'a [u8; 64],
-    marks: &'a [bool; 64],
+    marks: &'a [u8; 64],
     ring_slots: &'a [u16; 128],
     ring_epochs: &'a [u16; 128],
     rest: Small,
@@ -354,7 +348,7 @@ fn is_live<'a>(
     if !cpus_fit(states, epochs, homes, marks, &mut want, n, currents, idles) {
         return false;
     }
-    let slots = slots_fit(states, homes, &want, n);
+    let slots = slots_fit(states, homes, marks, &want, n);
     if !slots.good {
         return false;
     }
@@ -372,7 +366,7 @@ fn slots_blank<'a>(
     states: &'a [u8; 64],
     epochs: &'a [u16; 64],
     homes: &'a [u8; 64],
-    marks: &'a [bool; 64],
+    marks: &'a [u8; 64],
     n: usize,
 ) -> bool
     requires { ⌜ n ≤ MOST ⌝ }
@@ -389,7 +383,7 @@ fn slots_blank<'a>(
         if homes[i] != 0 {
             return false;
         }
-        if marks[i] {
+        if marks[i] != 0 {
             return false;
         }
         i = i + 1;
@@ -423,7 +417,7 @@ fn is_fresh<'a>(
     states: &'a [u8; 64],
     epochs: &'a [u16; 64],
     homes: &'a [u8; 64],
-    marks: &'a [bool; 64],
+    marks: &'a [u8; 64],
     rest: Small,
 ) -> bool
     requires { ⌜ rest .n ≤ MOST ⌝ }
@@ -438,7 +432,7 @@ fn is_fresh<'a>(
     if !cpus_blank(lens, currents, idles) {
         return false;
     }
-    if rest.parked {
+    if rest.parked != 0 {
         return false;
     }
     if rest.overwrites != 0 {
@@ -480,7 +474,7 @@ fn typed(
     states: &[u8],
     epochs: &[u16],
     homes: &[u8],
-    marks: &[bool],
+    marks: &[u8],
     ring_slots: &[u16],
     ring_epochs: &[u16],
 )
@@ -489,16 +483,16 @@ fn typed(
     nothing();
 }
 
-pub fn sound_parts<'a>(
+pub fn sound_at<'a>(
     states: &'a [u8; 64],
     epochs: &'a [u16; 64],
     homes: &'a [u8; 64],
-    marks: &'a [bool; 64],
+    marks: &'a [u8; 64],
     ring_slots: &'a [u16; 128],
     ring_epochs: &'a [u16; 128],
     rest: Small,
 ) -> bool
-    ensures { λ r. ⌜ Tells r (Sound (whole (now (states .entry)) (now (epochs .entry)) (now (homes .entry)) (now (marks .entry)) (now («ring_slots» .entry)) (now («ring_epochs» .entry)) rest)) ⌝ }
+    ensures { λ r. ⌜ Tells r (Sound (was states epochs homes marks «ring_slots» «ring_epochs» rest)) ⌝ }
 {
     typed(states, epochs, homes, marks, ring_slots, ring_epochs);
     let heads = rest.heads;
@@ -515,30 +509,13 @@ pub fn sound_parts<'a>(
 pub fn sound(t: Tasks) -> bool
     ensures { λ r. ⌜ Tells r (Sound t) ⌝ }
 {
-    let heads = t.heads;
-    let lens = t.lens;
-    let currents = t.currents;
-    let idles = t.idles;
-    let parked_id = t.parked_id;
-    let rest = Small {
-        n: t.n,
-        heads: heads,
-        lens: lens,
-        currents: currents,
-        idles: idles,
-        parked: t.parked,
-        parked_id: parked_id,
-        overwrites: t.overwrites,
-        block_events: t.block_events,
-        peak: t.peak,
-    };
-    sound_parts(
+    sound_at(
         &t.states,
         &t.epochs,
         &t.homes,
         &t.marks,
         &t.ring_slots,
         &t.ring_epochs,
-        rest,
+        t.small,
     )
 }

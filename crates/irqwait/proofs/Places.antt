@@ -1,6 +1,6 @@
 -- Laws of places, each free or taken: what a test or a statement says of one, and when an entry may be put.
 use mathlib.Core.Path.{_≡_, refl, _∙_}
-use mathlib.Core.Bool.{Bool, true, false}
+use mathlib.Core.Bool.{Bool, true, false, cond}
 use mathlib.Core.Logic.{_⊎_, inl, inr, ⊎-elim}
 use mathlib.Core.List.{List}
 use mathlib.Core.Option.{Option, some, none}
@@ -10,7 +10,7 @@ use native.Mathlib.Omega.{arith}
 use lib.ListN.{length, getD, set, replicate, length-set, List·getD-eq-default}
 use lib.Seq.{getD-set-same, getD-set-other}
 use Rattle.lists.specs.Entries.{taken, alike, Distinct, Holds, freed}
-use Rattle.lists.proofs.Basics.{lt-or-ge, not-both, getD-all}
+use Rattle.lists.proofs.Basics.{lt-or-ge, not-both, set-holds, getD-all}
 use Rattle.lists.proofs.EntriesLaws.{distinct-put, getD-freed}
 
 -- ONE PLACE
@@ -32,11 +32,15 @@ module _ {A : Type 0} (Q : A → Type 0) (e : Option A) where
   pub holds-of : {x : A} → e ≡ some x → Holds Q e → Q x
   holds-of h q = rw h at q
 
+pub holds-if : {A : Type 0} (Q : A → Type 0) (b : Bool) (x : A) → (b ≡ true → Q x) → Holds Q (cond b (some x) none)
+holds-if Q true x h = h refl
+holds-if Q false x h = tt
+
 -- EVERY PLACE
 
 module _ {A : Type 0} (P : ℕ → A → Type 0) (es : List (Option A)) where
   -- at the first n places
-  pub Held : ℕ → Type 0
+  unfoldable pub Held : ℕ → Type 0
   Held n = (i : ℕ) → i < n → Holds (P i) (getD es i none)
 
   pub held-none : Held 0
@@ -81,12 +85,7 @@ holds-fresh {A} P n i = rw (getD-all {A = Option A} n i none) tt
 -- a place that is freed
 module _ {A : Type 0} (es : List (Option A)) where
   pub thin-set : (k i : ℕ) → (getD (set es k none) i none ≡ none) ⊎ (getD (set es k none) i none ≡ getD es i none)
-  thin-set k i = go (ℕ-discrete i k) (lt-or-ge k (length es))
-    where
-      go : Dec (i ≡ k) → ((k < length es) ⊎ (length es ≤ k)) → (getD (set es k none) i none ≡ none) ⊎ (getD (set es k none) i none ≡ getD es i none)
-      go (yes same) (inl l) = inl (rw same (getD-set-same es k none none l))
-      go (yes same) (inr g) = inl (rw same (List·getD-eq-default (set es k none) none {n = k} (rw (length-set es k none) g)))
-      go (no other) _ = inr (getD-set-other es k i none none other)
+  thin-set k i = set-holds none (λ (e : Option A). (e ≡ none) ⊎ (e ≡ getD es i none)) es k i none (inl refl) (inr refl)
 
   pub thin-freed : (p : A → Bool) (i : ℕ) → (getD (freed p es) i none ≡ none) ⊎ (getD (freed p es) i none ≡ getD es i none)
   thin-freed p i = go (taken p (getD es i none)) refl

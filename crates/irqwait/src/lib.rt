@@ -1,14 +1,14 @@
 // Interrupt waits: which task waits for which interrupt, and which tasks have an interrupt that they have not taken yet.
 ghost use mathlib.Core.Path.{_≡_};
 ghost use Prim.Native.Nat.{_<_};
-ghost use lib.ListN.{length};
 ghost use Rattle.lists.specs.Tells.{Tells};
 ghost use Rattle.lists.specs.Search.{firstAt};
 ghost use Rattle.lists.specs.Entries.{taken, lowestFree};
 ghost use Rattle.answers.specs.Reply.{done};
 ghost use Rattle.answers.specs.Answers.{ackReply, toldReply, namedReply};
-ghost use Rattle.answers.specs.Contract.{Makes, Does, Meets, Answers};
-ghost use Rattle.irqwait.specs.Waits.{waitsOf, marksOf, waitOf, markOf, view, isFor, hasCookie, isMark, SoundWaiters, SoundMarks, Sound, waits};
+ghost use Rattle.answers.specs.Contract.{Makes, Meets, Answers};
+ghost use Rattle.irqwait.specs.Waits.{MARKS, waitsOf, waitOf, markAt, view, isFor, hasCookie, isMark, WaitersFit, MarksFit, Sound, waits};
+ghost use Rattle.irqwait.specs.Lent.{lent, was, DoesLent, MeetsLent, AnswersLent};
 ghost use Rattle.irqwait.specs.Steps.{refusalOf, walk, newStep, armStep, disarmStep, signalStep, takeStep, pendingReply};
 use answers::Ack;
 use answers::Named;
@@ -24,26 +24,22 @@ pub const MAX_TASK_IDS: usize = 64;
 #[repr(C)]
 pub struct Cookie(pub u32);
 
-// One task that waits.
+// One task that waits. `live` is a flag in a byte: 0 or 1 in a sound table.
 #[repr(C)]
 pub struct Waiter {
-    pub live: bool,
+    pub live: u8,
     pub cookie: Cookie,
     pub task: TaskId,
 }
 
-// An interrupt that has come for a task. It is kept under the task's slot with the whole id, so that the next tenant of
-// the slot can't take it.
-#[repr(C)]
-pub struct Mark {
-    pub set: bool,
-    pub task: TaskId,
-}
-
+// Who waits, and for each slot whether an interrupt has come for a task of it: a flag, and the whole id, so that the next tenant
+// of the slot can't take it. The marks are three arrays of numbers, so that they can be lent.
 #[repr(C)]
 pub struct WaitTable {
     pub waiters: [Waiter; 8],
-    pub pending: [Mark; 64],
+    pub pending: [u8; 64],
+    pub pending_slots: [u16; 64],
+    pub pending_epochs: [u16; 64],
 }
 
 // The table, beside what a call that changed it answers: done, true or false, a task.
@@ -62,9 +58,25 @@ pub struct Signalled {
     pub answer: Named,
 }
 
+// The same of a call whose marks are lent: they are changed where they lie, and the waiters come back.
+pub struct LentAck {
+    pub waiters: [Waiter; 8],
+    pub answer: Ack,
+}
+
+pub struct LentTold {
+    pub waiters: [Waiter; 8],
+    pub answer: Told,
+}
+
+pub struct LentNamed {
+    pub waiters: [Waiter; 8],
+    pub answer: Named,
+}
+
 impl Waiter {
     pub const FREE: Waiter = Waiter {
-        live: false,
+        live: 0,
         cookie: Cookie(0),
         task: TaskId::IDLE,
     };
@@ -72,7 +84,7 @@ impl Waiter {
     fn is_for(self, id: TaskId) -> bool
         ensures { λ r. ⌜ r ≡ taken (isFor id) (waitOf self) ⌝ }
     {
-        if !self.live {
+        if self.live == 0 {
             return false;
         }
         let task = self.task;
@@ -82,7 +94,7 @@ impl Waiter {
     fn has(self, cookie: Cookie) -> bool
         ensures { λ r. ⌜ r ≡ taken (hasCookie (cookie .0)) (waitOf self) ⌝ }
     {
-        if !self.live {
+        if self.live == 0 {
             return false;
         }
         let own = self.cookie;
@@ -90,31 +102,38 @@ impl Waiter {
     }
 }
 
-impl Mark {
-    pub const CLEAR: Mark = Mark {
-        set: false,
-        task: TaskId::IDLE,
-    };
-
-    fn is_for(self, id: TaskId) -> bool
-        ensures { λ r. ⌜ r ≡ taken (isMark id) (markOf self) ⌝ }
-    {
-        if !self.set {
-            return false;
-        }
-        let task = self.task;
-        task.same(id)
+// Whether the mark of a slot is that of a task.
+fn is_marked<'a>(
+    pending: &'a [u8; 64],
+    slots: &'a [u16; 64],
+    epochs: &'a [u16; 64],
+    id: TaskId,
+) -> bool
+    requires { ⌜ id .slot < MARKS ⌝ }
+    ensures { λ r. ⌜ r ≡ taken (isMark id) (markAt (now (pending .entry)) (now (slots .entry)) (now (epochs .entry)) (id .slot)) ⌝ }
+{
+    let s = id.slot();
+    if pending[s] == 0 {
+        return false;
     }
+    let mark = TaskId {
+        slot: slots[s],
+        epoch: epochs[s],
+    };
+    mark.same(id)
 }
 
-// Whether no two of the waiters share a cookie or a task, and each task's slot has a mark.
+// Whether every flag is one, no two of the waiters share a cookie or a task, and each task's slot has a mark.
 fn waiters_sound(waiters: [Waiter; 8]) -> bool
-    ensures { λ r. ⌜ Tells r (SoundWaiters (waitsOf waiters)) ⌝ }
+    ensures { λ r. ⌜ Tells r (WaitersFit waiters) ⌝ }
 {
     let mut i = 0;
     while i < MAX_WAITERS {
         let e = waiters[i];
-        if e.live {
+        if 1 < e.live {
+            return false;
+        }
+        if e.live != 0 {
             let task = e.task;
             if MAX_TASK_IDS <= task.slot() {
                 return false;
@@ -136,22 +155,30 @@ fn waiters_sound(waiters: [Waiter; 8]) -> bool
     true
 }
 
-// Whether each mark is under its own slot.
-fn marks_sound(pending: [Mark; 64]) -> bool
-    ensures { λ r. ⌜ Tells r (SoundMarks (marksOf pending)) ⌝ }
+// Whether every flag is one, and each mark is under its own slot.
+fn marks_sound<'a>(pending: &'a [u8; 64], slots: &'a [u16; 64]) -> bool
+    ensures { λ r. ⌜ Tells r (MarksFit (now (pending .entry)) (now (slots .entry))) ⌝ }
 {
     let mut s = 0;
     while s < MAX_TASK_IDS {
-        let m = pending[s];
-        if m.set {
-            let task = m.task;
-            if task.slot() != s {
+        let flag = pending[s];
+        if 1 < flag {
+            return false;
+        }
+        if flag != 0 {
+            if wide(slots[s]) != s {
                 return false;
             }
         }
         s = s + 1;
     }
     true
+}
+
+fn wide(x: u16) -> usize
+    ensures { λ r. ⌜ r ≡ x ⌝ }
+{
+    x as usize
 }
 
 // The place of the waiter for a cookie, or 8.
@@ -176,7 +203,7 @@ fn lowest_free(waiters: [Waiter; 8]) -> usize
     let mut i = 0;
     while i < MAX_WAITERS {
         let e = waiters[i];
-        if !e.live {
+        if e.live == 0 {
             return i;
         }
         i = i + 1;
@@ -202,13 +229,268 @@ fn busy(waiters: [Waiter; 8], cookie: Cookie, task: TaskId) -> Ack
     Ack::Done
 }
 
+// An array that is lent as a slice tells the proof its size, which a reference to an array does not. It compiles to nothing.
+fn sized(pending: &[u8], slots: &[u16], epochs: &[u16]) {}
+
+// A table is made where its marks lie.
+pub fn new_at(pending: &mut [u8; 64], slots: &mut [u16; 64], epochs: &mut [u16; 64]) -> [Waiter; 8]
+    ensures { λ r. ⌜ Makes waits (lent (pending .exit) (slots .exit) (epochs .exit) r) done newStep ⌝ }
+{
+    *pending = [0; 64];
+    *slots = [0; 64];
+    *epochs = [0; 64];
+    [Waiter::FREE; 8]
+}
+
+// INNER CALLS: the marks are lent, and the caller knows the table to be sound
+
+pub fn arm_in(
+    pending: &mut [u8; 64],
+    slots: &mut [u16; 64],
+    epochs: &mut [u16; 64],
+    mut waiters: [Waiter; 8],
+    cookie: Cookie,
+    task: TaskId,
+) -> LentAck
+    requires { ⌜ Sound (lent pending slots epochs waiters) ⌝ }
+    ensures { λ r. ⌜ DoesLent pending slots epochs waiters (r .waiters) (ackReply (r .answer)) (λ w. armStep w (cookie .0) task) ⌝ }
+{
+    if MAX_TASK_IDS <= task.slot() {
+        return LentAck {
+            waiters: waiters,
+            answer: Ack::Refused(Refusal::BadTask),
+        };
+    }
+    let verdict = busy(waiters, cookie, task);
+    if let Ack::Refused(why) = verdict {
+        return LentAck {
+            waiters: waiters,
+            answer: Ack::Refused(why),
+        };
+    }
+    let i = lowest_free(waiters);
+    if MAX_WAITERS <= i {
+        return LentAck {
+            waiters: waiters,
+            answer: Ack::Refused(Refusal::Full),
+        };
+    }
+    waiters[i] = Waiter {
+        live: 1,
+        cookie: cookie,
+        task: task,
+    };
+    LentAck {
+        waiters: waiters,
+        answer: Ack::Done,
+    }
+}
+
+pub fn disarm_task_in(
+    pending: &mut [u8; 64],
+    slots: &mut [u16; 64],
+    epochs: &mut [u16; 64],
+    mut waiters: [Waiter; 8],
+    task: TaskId,
+) -> LentAck
+    requires { ⌜ Sound (lent pending slots epochs waiters) ⌝ }
+    ensures { λ r. ⌜ DoesLent pending slots epochs waiters (r .waiters) (ackReply (r .answer)) (λ w. disarmStep w task) ⌝ }
+{
+    let mut i = 0;
+    while i < MAX_WAITERS {
+        let e = waiters[i];
+        if e.is_for(task) {
+            waiters[i] = Waiter::FREE;
+        }
+        i = i + 1;
+    }
+    LentAck {
+        waiters: waiters,
+        answer: Ack::Done,
+    }
+}
+
+pub fn signal_in(
+    pending: &mut [u8; 64],
+    slots: &mut [u16; 64],
+    epochs: &mut [u16; 64],
+    mut waiters: [Waiter; 8],
+    cookie: Cookie,
+) -> LentNamed
+    requires { ⌜ Sound (lent pending slots epochs waiters) ⌝ }
+    ensures { λ r. ⌜ DoesLent pending slots epochs waiters (r .waiters) (namedReply (r .answer)) (λ w. signalStep w (cookie .0)) ⌝ }
+{
+    let i = find(waiters, cookie);
+    if MAX_WAITERS <= i {
+        return LentNamed {
+            waiters: waiters,
+            answer: Named::Nothing,
+        };
+    }
+    let e = waiters[i];
+    let task = e.task;
+    let s = task.slot();
+    waiters[i] = Waiter::FREE;
+    sized(pending, slots, epochs);
+    pending[s] = 1;
+    slots[s] = task.slot;
+    epochs[s] = task.epoch;
+    LentNamed {
+        waiters: waiters,
+        answer: Named::Id(task),
+    }
+}
+
+pub fn take_pending_in(
+    pending: &mut [u8; 64],
+    slots: &mut [u16; 64],
+    epochs: &mut [u16; 64],
+    waiters: [Waiter; 8],
+    task: TaskId,
+) -> LentTold
+    requires { ⌜ Sound (lent pending slots epochs waiters) ⌝ }
+    ensures { λ r. ⌜ DoesLent pending slots epochs waiters (r .waiters) (toldReply (r .answer)) (λ w. takeStep w task) ⌝ }
+{
+    let s = task.slot();
+    if MAX_TASK_IDS <= s {
+        return LentTold {
+            waiters: waiters,
+            answer: Told::Is(false),
+        };
+    }
+    if !is_marked(pending, slots, epochs, task) {
+        return LentTold {
+            waiters: waiters,
+            answer: Told::Is(false),
+        };
+    }
+    pending[s] = 0;
+    LentTold {
+        waiters: waiters,
+        answer: Told::Is(true),
+    }
+}
+
+// CALLS OF THE PRODUCT ON LENT MARKS: the test, then 1 or the inner call
+
+pub fn sound_at<'a>(
+    pending: &'a [u8; 64],
+    slots: &'a [u16; 64],
+    epochs: &'a [u16; 64],
+    waiters: [Waiter; 8],
+) -> bool
+    ensures { λ r. ⌜ Tells r (Sound (was pending slots epochs waiters)) ⌝ }
+{
+    if !waiters_sound(waiters) {
+        return false;
+    }
+    marks_sound(pending, slots)
+}
+
+pub fn arm_at(
+    pending: &mut [u8; 64],
+    slots: &mut [u16; 64],
+    epochs: &mut [u16; 64],
+    waiters: [Waiter; 8],
+    cookie: Cookie,
+    task: TaskId,
+) -> LentAck
+    ensures { λ r. ⌜ MeetsLent pending slots epochs waiters (r .waiters) (ackReply (r .answer)) (λ w. armStep w (cookie .0) task) ⌝ }
+{
+    if !sound_at(pending, slots, epochs, waiters) {
+        return LentAck {
+            waiters: waiters,
+            answer: Ack::Refused(Refusal::BadTable),
+        };
+    }
+    arm_in(pending, slots, epochs, waiters, cookie, task)
+}
+
+pub fn disarm_task_at(
+    pending: &mut [u8; 64],
+    slots: &mut [u16; 64],
+    epochs: &mut [u16; 64],
+    waiters: [Waiter; 8],
+    task: TaskId,
+) -> LentAck
+    ensures { λ r. ⌜ MeetsLent pending slots epochs waiters (r .waiters) (ackReply (r .answer)) (λ w. disarmStep w task) ⌝ }
+{
+    if !sound_at(pending, slots, epochs, waiters) {
+        return LentAck {
+            waiters: waiters,
+            answer: Ack::Refused(Refusal::BadTable),
+        };
+    }
+    disarm_task_in(pending, slots, epochs, waiters, task)
+}
+
+pub fn signal_at(
+    pending: &mut [u8; 64],
+    slots: &mut [u16; 64],
+    epochs: &mut [u16; 64],
+    waiters: [Waiter; 8],
+    cookie: Cookie,
+) -> LentNamed
+    ensures { λ r. ⌜ MeetsLent pending slots epochs waiters (r .waiters) (namedReply (r .answer)) (λ w. signalStep w (cookie .0)) ⌝ }
+{
+    if !sound_at(pending, slots, epochs, waiters) {
+        return LentNamed {
+            waiters: waiters,
+            answer: Named::Refused(Refusal::BadTable),
+        };
+    }
+    signal_in(pending, slots, epochs, waiters, cookie)
+}
+
+pub fn take_pending_at(
+    pending: &mut [u8; 64],
+    slots: &mut [u16; 64],
+    epochs: &mut [u16; 64],
+    waiters: [Waiter; 8],
+    task: TaskId,
+) -> LentTold
+    ensures { λ r. ⌜ MeetsLent pending slots epochs waiters (r .waiters) (toldReply (r .answer)) (λ w. takeStep w task) ⌝ }
+{
+    if !sound_at(pending, slots, epochs, waiters) {
+        return LentTold {
+            waiters: waiters,
+            answer: Told::Refused(Refusal::BadTable),
+        };
+    }
+    take_pending_in(pending, slots, epochs, waiters, task)
+}
+
+pub fn is_pending_at<'a>(
+    pending: &'a [u8; 64],
+    slots: &'a [u16; 64],
+    epochs: &'a [u16; 64],
+    waiters: [Waiter; 8],
+    task: TaskId,
+) -> Told
+    ensures { λ r. ⌜ AnswersLent pending slots epochs waiters (toldReply r) (λ w. pendingReply w task) ⌝ }
+{
+    if !sound_at(pending, slots, epochs, waiters) {
+        return Told::Refused(Refusal::BadTable);
+    }
+    if MAX_TASK_IDS <= task.slot() {
+        return Told::Is(false);
+    }
+    Told::Is(is_marked(pending, slots, epochs, task))
+}
+
 impl WaitTable {
     pub fn new() -> WaitTable
         ensures { λ r. ⌜ Makes waits r done newStep ⌝ }
     {
+        let mut pending = [0u8; 64];
+        let mut slots = [0u16; 64];
+        let mut epochs = [0u16; 64];
+        let waiters = new_at(&mut pending, &mut slots, &mut epochs);
         WaitTable {
-            waiters: [Waiter::FREE; 8],
-            pending: [Mark::CLEAR; 64],
+            waiters: waiters,
+            pending: pending,
+            pending_slots: slots,
+            pending_epochs: epochs,
         }
     }
 
@@ -216,59 +498,33 @@ impl WaitTable {
         ensures { λ r. ⌜ Tells r (Sound self) ⌝ }
     {
         let waiters = self.waiters;
-        if !waiters_sound(waiters) {
-            return false;
-        }
-        let pending = self.pending;
-        marks_sound(pending)
+        sound_at(
+            &self.pending,
+            &self.pending_slots,
+            &self.pending_epochs,
+            waiters,
+        )
     }
 
     // The task waits for the interrupt from now on.
     pub fn arm(self, cookie: Cookie, task: TaskId) -> Armed
         ensures { λ r. ⌜ Meets waits self (r .table) (ackReply (r .answer)) (armStep (view self) (cookie .0) task) ⌝ }
     {
-        if !self.sound() {
-            return Armed {
-                table: self,
-                answer: Ack::Refused(Refusal::BadTable),
-            };
-        }
-        self.arm_in(cookie, task)
-    }
-
-    pub fn arm_in(mut self, cookie: Cookie, task: TaskId) -> Armed
-        requires { ⌜ Sound self ⌝ }
-        ensures { λ r. ⌜ Does waits self (r .table) (ackReply (r .answer)) (armStep (view self) (cookie .0) task) ⌝ }
-    {
-        if MAX_TASK_IDS <= task.slot() {
-            return Armed {
-                table: self,
-                answer: Ack::Refused(Refusal::BadTask),
-            };
-        }
         let waiters = self.waiters;
-        let verdict = busy(waiters, cookie, task);
-        if let Ack::Refused(why) = verdict {
-            return Armed {
-                table: self,
-                answer: Ack::Refused(why),
-            };
-        }
-        let i = lowest_free(waiters);
-        if MAX_WAITERS <= i {
-            return Armed {
-                table: self,
-                answer: Ack::Refused(Refusal::Full),
-            };
-        }
-        self.waiters[i] = Waiter {
-            live: true,
-            cookie: cookie,
-            task: task,
-        };
+        let mut pending = self.pending;
+        let mut slots = self.pending_slots;
+        let mut epochs = self.pending_epochs;
+        let done = arm_at(&mut pending, &mut slots, &mut epochs, waiters, cookie, task);
+        let waiters = done.waiters;
+        let answer = done.answer;
         Armed {
-            table: self,
-            answer: Ack::Done,
+            table: WaitTable {
+                waiters: waiters,
+                pending: pending,
+                pending_slots: slots,
+                pending_epochs: epochs,
+            },
+            answer: answer,
         }
     }
 
@@ -276,30 +532,21 @@ impl WaitTable {
     pub fn disarm_task(self, task: TaskId) -> Armed
         ensures { λ r. ⌜ Meets waits self (r .table) (ackReply (r .answer)) (disarmStep (view self) task) ⌝ }
     {
-        if !self.sound() {
-            return Armed {
-                table: self,
-                answer: Ack::Refused(Refusal::BadTable),
-            };
-        }
-        self.disarm_task_in(task)
-    }
-
-    pub fn disarm_task_in(mut self, task: TaskId) -> Armed
-        requires { ⌜ Sound self ⌝ }
-        ensures { λ r. ⌜ Does waits self (r .table) (ackReply (r .answer)) (disarmStep (view self) task) ⌝ }
-    {
-        let mut i = 0;
-        while i < MAX_WAITERS {
-            let e = self.waiters[i];
-            if e.is_for(task) {
-                self.waiters[i] = Waiter::FREE;
-            }
-            i = i + 1;
-        }
+        let waiters = self.waiters;
+        let mut pending = self.pending;
+        let mut slots = self.pending_slots;
+        let mut epochs = self.pending_epochs;
+        let done = disarm_task_at(&mut pending, &mut slots, &mut epochs, waiters, task);
+        let waiters = done.waiters;
+        let answer = done.answer;
         Armed {
-            table: self,
-            answer: Ack::Done,
+            table: WaitTable {
+                waiters: waiters,
+                pending: pending,
+                pending_slots: slots,
+                pending_epochs: epochs,
+            },
+            answer: answer,
         }
     }
 
@@ -307,38 +554,21 @@ impl WaitTable {
     pub fn signal(self, cookie: Cookie) -> Signalled
         ensures { λ r. ⌜ Meets waits self (r .table) (namedReply (r .answer)) (signalStep (view self) (cookie .0)) ⌝ }
     {
-        if !self.sound() {
-            return Signalled {
-                table: self,
-                answer: Named::Refused(Refusal::BadTable),
-            };
-        }
-        self.signal_in(cookie)
-    }
-
-    pub fn signal_in(mut self, cookie: Cookie) -> Signalled
-        requires { ⌜ Sound self ⌝ }
-        ensures { λ r. ⌜ Does waits self (r .table) (namedReply (r .answer)) (signalStep (view self) (cookie .0)) ⌝ }
-    {
         let waiters = self.waiters;
-        let i = find(waiters, cookie);
-        if MAX_WAITERS <= i {
-            return Signalled {
-                table: self,
-                answer: Named::Nothing,
-            };
-        }
-        let e = waiters[i];
-        let task = e.task;
-        let s = task.slot();
-        self.waiters[i] = Waiter::FREE;
-        self.pending[s] = Mark {
-            set: true,
-            task: task,
-        };
+        let mut pending = self.pending;
+        let mut slots = self.pending_slots;
+        let mut epochs = self.pending_epochs;
+        let done = signal_at(&mut pending, &mut slots, &mut epochs, waiters, cookie);
+        let waiters = done.waiters;
+        let answer = done.answer;
         Signalled {
-            table: self,
-            answer: Named::Id(task),
+            table: WaitTable {
+                waiters: waiters,
+                pending: pending,
+                pending_slots: slots,
+                pending_epochs: epochs,
+            },
+            answer: answer,
         }
     }
 
@@ -346,37 +576,21 @@ impl WaitTable {
     pub fn take_pending(self, task: TaskId) -> Took
         ensures { λ r. ⌜ Meets waits self (r .table) (toldReply (r .answer)) (takeStep (view self) task) ⌝ }
     {
-        if !self.sound() {
-            return Took {
-                table: self,
-                answer: Told::Refused(Refusal::BadTable),
-            };
-        }
-        self.take_pending_in(task)
-    }
-
-    pub fn take_pending_in(mut self, task: TaskId) -> Took
-        requires { ⌜ Sound self ⌝ }
-        ensures { λ r. ⌜ Does waits self (r .table) (toldReply (r .answer)) (takeStep (view self) task) ⌝ }
-    {
-        let s = task.slot();
-        if MAX_TASK_IDS <= s {
-            return Took {
-                table: self,
-                answer: Told::Is(false),
-            };
-        }
-        let m = self.pending[s];
-        if !m.is_for(task) {
-            return Took {
-                table: self,
-                answer: Told::Is(false),
-            };
-        }
-        self.pending[s] = Mark::CLEAR;
+        let waiters = self.waiters;
+        let mut pending = self.pending;
+        let mut slots = self.pending_slots;
+        let mut epochs = self.pending_epochs;
+        let done = take_pending_at(&mut pending, &mut slots, &mut epochs, waiters, task);
+        let waiters = done.waiters;
+        let answer = done.answer;
         Took {
-            table: self,
-            answer: Told::Is(true),
+            table: WaitTable {
+                waiters: waiters,
+                pending: pending,
+                pending_slots: slots,
+                pending_epochs: epochs,
+            },
+            answer: answer,
         }
     }
 
@@ -384,14 +598,13 @@ impl WaitTable {
     pub fn is_pending(self, task: TaskId) -> Told
         ensures { λ r. ⌜ Answers waits self (toldReply r) (pendingReply (view self) task) ⌝ }
     {
-        if !self.sound() {
-            return Told::Refused(Refusal::BadTable);
-        }
-        let s = task.slot();
-        if MAX_TASK_IDS <= s {
-            return Told::Is(false);
-        }
-        let m = self.pending[s];
-        Told::Is(m.is_for(task))
+        let waiters = self.waiters;
+        is_pending_at(
+            &self.pending,
+            &self.pending_slots,
+            &self.pending_epochs,
+            waiters,
+            task,
+        )
     }
 }

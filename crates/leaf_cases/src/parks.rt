@@ -122,30 +122,42 @@ pub fn outputs() {
     say::end();
 }
 
-// A task with two deadlines: every call, and the entries as they came back.
-pub fn broken() {
-    say::text(b"ours park damaged");
-    let mut t = Table::new();
-    t.entries[3] = Entry {
-        live: true,
-        task: TaskId::new(4, 4),
-        deadline: 10,
-    };
-    t.entries[15] = Entry {
-        live: true,
-        task: TaskId::new(4, 4),
-        deadline: 11,
-    };
+// Every call on a table, and entries 3 and 15 as they came back.
+fn tried(t: Table) {
     say::truth(t.sound());
     let a = arm(t, 1, 1, 1);
     let b = disarm(a, 4, 4);
     let c = poll(b, 100);
     let d = polled_15(c);
-    let e = d.entries[3];
-    let f = d.entries[15];
+    entry(d.entries[3]);
+    entry(d.entries[15]);
+}
+
+fn entry(e: Entry) {
+    say::number(e.live as u64);
     say::id(e.task);
     say::number(e.deadline);
-    say::id(f.task);
-    say::number(f.deadline);
+}
+
+fn deadline(live: u8, slot: u16, at: u64) -> Entry {
+    Entry {
+        live: live,
+        task: TaskId::new(slot, 4),
+        deadline: at,
+    }
+}
+
+fn two(a: Entry, b: Entry) -> Table {
+    let mut t = Table::new();
+    t.entries[3] = a;
+    t.entries[15] = b;
+    t
+}
+
+// A task with two deadlines, and a flag that is neither 0 nor 1.
+pub fn broken() {
+    say::text(b"ours park damaged");
+    tried(two(deadline(1, 4, 10), deadline(1, 4, 11)));
+    tried(two(deadline(1, 4, 10), deadline(2, 5, 11)));
     say::end();
 }

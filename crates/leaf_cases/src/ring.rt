@@ -1,10 +1,8 @@
 // Ids and the ring at their edges.
 use ids::TaskId;
 use ids::Token;
-use runqueue::Queued;
 use runqueue::Requeue;
 use runqueue::RunQueue;
-use runqueue::Taken;
 
 // Both ways at both ends of the range.
 pub fn packing() {
@@ -159,17 +157,17 @@ pub fn sizes() {
 }
 
 fn numbers(q: RunQueue) {
-    say::number(q.n as u64);
-    say::number(q.head as u64);
-    say::number(q.len as u64);
+    say::number(q.span.n as u64);
+    say::number(q.span.head as u64);
+    say::number(q.span.len as u64);
 }
 
 // Every call on a ring with these numbers, and the ring as it came back.
 fn damaged(n: usize, head: usize, len: usize) {
     let mut q = made(64);
-    q.n = n;
-    q.head = head;
-    q.len = len;
+    q.span.n = n;
+    q.span.head = head;
+    q.span.len = len;
     say::truth(q.sound());
     tests(q);
     say::named(q.ready_at(0));

@@ -1,7 +1,6 @@
 // The wait table at its edges.
 use ids::TaskId;
 use irqwait::Cookie;
-use irqwait::Mark;
 use irqwait::WaitTable;
 use irqwait::Waiter;
 
@@ -110,7 +109,7 @@ pub fn marking() {
     say::end();
 }
 
-// Every call on a table, and whether entries 0 and 1 and mark 5 came back as they were.
+// Every call on a table, and entries 0 and 1 and mark 5 as they came back.
 fn tried(t: WaitTable) {
     say::truth(t.sound());
     let a = arm(t, 1, 1, 1);
@@ -118,47 +117,54 @@ fn tried(t: WaitTable) {
     let c = signal(b, 7);
     let d = take(c, 6, 0);
     pending(d, 6, 0);
-    let e = d.waiters[0];
-    let f = d.waiters[1];
-    let m = d.pending[5];
-    say::truth(e.live);
-    let x = e.cookie;
-    say::number(x.0 as u64);
-    say::id(e.task);
-    say::truth(f.live);
-    let y = f.cookie;
-    say::number(y.0 as u64);
-    say::id(f.task);
-    say::truth(m.set);
-    say::id(m.task);
+    entry(d.waiters[0]);
+    entry(d.waiters[1]);
+    flag(d.pending[5]);
+    say::id(TaskId::new(d.pending_slots[5], d.pending_epochs[5]));
 }
 
-fn two(a: u32, x: TaskId, b: u32, y: TaskId) -> WaitTable {
+fn flag(b: u8) {
+    say::number(b as u64);
+}
+
+fn entry(e: Waiter) {
+    flag(e.live);
+    let cookie = e.cookie;
+    say::number(cookie.0 as u64);
+    say::id(e.task);
+}
+
+fn waiter(live: u8, cookie: u32, slot: u16) -> Waiter {
+    Waiter {
+        live: live,
+        cookie: Cookie(cookie),
+        task: TaskId::new(slot, 0),
+    }
+}
+
+fn two(a: Waiter, b: Waiter) -> WaitTable {
     let mut t = WaitTable::new();
-    t.waiters[0] = Waiter {
-        live: true,
-        cookie: Cookie(a),
-        task: x,
-    };
-    t.waiters[1] = Waiter {
-        live: true,
-        cookie: Cookie(b),
-        task: y,
-    };
+    t.waiters[0] = a;
+    t.waiters[1] = b;
     t
 }
 
-// Each clause of a wait table's soundness broken.
+// A mark in place 5, for a task of a slot.
+fn marked(flag: u8, slot: u16) -> WaitTable {
+    let mut t = WaitTable::new();
+    t.pending[5] = flag;
+    t.pending_slots[5] = slot;
+    t
+}
+
+// Each clause of a wait table's soundness broken, and a flag of each kind that is neither 0 nor 1.
 pub fn broken() {
     say::text(b"ours wait damaged");
-    tried(two(7, TaskId::new(2, 0), 7, TaskId::new(3, 0)));
-    tried(two(7, TaskId::new(2, 0), 8, TaskId::new(2, 0)));
-    tried(two(7, TaskId::new(2, 0), 8, TaskId::new(64, 0)));
-    let mut t = WaitTable::new();
-    t.pending[5] = Mark {
-        set: true,
-        task: TaskId::new(6, 0),
-    };
-    tried(t);
+    tried(two(waiter(1, 7, 2), waiter(1, 7, 3)));
+    tried(two(waiter(1, 7, 2), waiter(1, 8, 2)));
+    tried(two(waiter(1, 7, 2), waiter(1, 8, 64)));
+    tried(two(waiter(1, 7, 2), waiter(3, 8, 3)));
+    tried(marked(1, 6));
+    tried(marked(2, 5));
     say::end();
 }

@@ -1,6 +1,5 @@
 // The wake queue at its edges.
 use ids::Token;
-use wake::Made;
 use wake::WakeQueue;
 
 fn made(c: usize) -> WakeQueue {
@@ -96,7 +95,7 @@ pub fn every_size() {
 pub fn wrap() {
     say::text(b"wake drops");
     let mut q = made(2);
-    q.drops = 4294967294;
+    q.ends.drops = 4294967294;
     let q = push(q, 1);
     let q = push(q, 2);
     say::count(q.drops());
@@ -139,25 +138,25 @@ pub fn sizes() {
     size(128);
     size(18446744073709551615);
     let q = made(3);
-    say::number(q.c as u64);
+    say::number(q.ends.c as u64);
     say::told(q.is_empty());
     say::end();
 }
 
 fn numbers(q: WakeQueue) {
-    say::number(q.c as u64);
-    say::number(q.head as u64);
-    say::number(q.tail as u64);
-    say::number(q.drops as u64);
+    say::number(q.ends.c as u64);
+    say::number(q.ends.head as u64);
+    say::number(q.ends.tail as u64);
+    say::number(q.ends.drops as u64);
 }
 
 // Every call on a queue with these numbers, and the queue as it came back.
 fn damaged(c: usize, head: usize, tail: usize) {
     let mut q = made(64);
-    q.c = c;
-    q.head = head;
-    q.tail = tail;
-    q.drops = 9;
+    q.ends.c = c;
+    q.ends.head = head;
+    q.ends.tail = tail;
+    q.ends.drops = 9;
     say::truth(q.sound());
     say::count(q.drops());
     say::told(q.is_empty());

@@ -56,6 +56,23 @@ module _ {A B : Type 0} (f : A → B) where
   map-replicate zero a = refl
   map-replicate (suc n) a = ap (λ (r : List B). f a ∷ r) (map-replicate n a)
 
+-- A STORE, WHATEVER THE LENGTH
+
+module _ {A : Type 0} (d : A) where
+  -- what holds of what is stored and of what was read holds of what is read
+  pub set-holds : (P : A → Type 0) (l : List A) (k i : ℕ) (a : A) → P a → P (getD l i d) → P (getD (set l k a) i d)
+  set-holds P [] k i a new old = old
+  set-holds P (x ∷ l) zero zero a new old = new
+  set-holds P (x ∷ l) zero (suc i) a new old = old
+  set-holds P (x ∷ l) (suc k) zero a new old = old
+  set-holds P (x ∷ l) (suc k) (suc i) a new old = set-holds P l k i a new old
+
+  -- a store of what is read past the end
+  pub set-default : (l : List A) (i : ℕ) → getD (set l i d) i d ≡ d
+  set-default [] i = refl
+  set-default (x ∷ l) zero = refl
+  set-default (x ∷ l) (suc i) = set-default l i
+
 -- the same value at every place, also past the end
 pub getD-all : {A : Type 0} (n i : ℕ) (a : A) → getD (replicate n a) i a ≡ a
 getD-all n i a =

@@ -2,3 +2,5 @@ pub mod Basics
 pub mod TabLaws
 pub mod SearchLaws
 pub mod EntriesLaws
+pub mod EachLaws
+pub mod FlagLaws

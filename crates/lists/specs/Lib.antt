@@ -3,3 +3,4 @@ pub mod Tab
 pub mod Search
 pub mod Entries
 pub mod Each
+pub mod Flags

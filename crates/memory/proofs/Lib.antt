@@ -3,3 +3,4 @@ pub mod ViewLaws
 pub mod RingStores
 pub mod FreshLaws
 pub mod PartLaws
+pub mod Wholes

@@ -10,6 +10,7 @@ use borrow.Author.Tests.{le-ltb}
 use lib.Dec.{eqb, ltb}
 use lib.ListN.{length, getD}
 use lib.Seq.{ext-getD}
+use Rattle.lists.specs.Flags.{isSet}
 use Rattle.lists.specs.Tab.{tab}
 use Rattle.lists.specs.Search.{firstAt, anyOf}
 use Rattle.lists.specs.Entries.{taken}
@@ -43,48 +44,48 @@ tab-all k l d e =
     (λ i h. getD-tab k (λ j. getD l j d) i d (omega (arith, length-tab k (λ j. getD l j d))))
 
 module _ (t : Tasks) where
-  pub view-known : (id : TaskId) → known (view t) id ≡ knownIn (t .epochs) (t .n) id
+  pub view-known : (id : TaskId) → known (view t) id ≡ knownIn (t .epochs) (t .small .n) id
   unfolding view
   view-known id =
-      ⊎-elim (λ (h : id .slot < t .n). ap (λ e. ltb (id .slot) (t .n) && eqb e (id .epoch)) (view-epoch t (id .slot) h))
-      (λ (h : t .n ≤ id .slot). rw (le-ltb (id .slot) (t .n) h))
-      (lt-or-ge (id .slot) (t .n))
+      ⊎-elim (λ (h : id .slot < t .small .n). ap (λ e. ltb (id .slot) (t .small .n) && eqb e (id .epoch)) (view-epoch t (id .slot) h))
+      (λ (h : t .small .n ≤ id .slot). rw (le-ltb (id .slot) (t .small .n) h))
+      (lt-or-ge (id .slot) (t .small .n))
 
-  pub view-idles : Rep t → (id : TaskId) → isIdle (view t) id ≡ idleIn (t .idles) id
+  pub view-idles : Rep t → (id : TaskId) → isIdle (view t) id ≡ idleIn (t .small .idles) id
   unfolding view cpuAt idleIn
   view-idles r id =
-      any-tab (λ (k : Cpu). sameId id (k .idle)) (λ i. sameId id i) CPUS (cpuAt t) (λ c. getD (t .idles) c idle) (λ j h. refl)
-      ∙ ap (anyOf (λ i. sameId id i)) (tab-all CPUS (t .idles) idle (r .idles))
+      any-tab (λ (k : Cpu). sameId id (k .idle)) (λ i. sameId id i) CPUS (cpuAt t) (λ c. getD (t .small .idles) c idle) (λ j h. refl)
+      ∙ ap (anyOf (λ i. sameId id i)) (tab-all CPUS (t .small .idles) idle (r .idles))
 
-  pub view-stealeable : Rep t → (id : TaskId) → stealeable (view t) id ≡ stealeableIn (t .epochs) (t .marks) (t .n) (t .idles) id
+  pub view-stealeable : Rep t → (id : TaskId) → stealeable (view t) id ≡ stealeableIn (t .epochs) (t .marks) (t .small .n) (t .small .idles) id
   view-stealeable r id =
       ⊎-elim
-      (λ (h : id .slot < t .n).
+      (λ (h : id .slot < t .small .n).
       rw (view-idles r id)
-      (ap₂ (λ a b. a && b && not (idleIn (t .idles) id)) (view-known id) (view-mark t (id .slot) h)))
-      (λ (h : t .n ≤ id .slot). rw (view-known id, le-ltb (id .slot) (t .n) h))
-      (lt-or-ge (id .slot) (t .n))
+      (ap₂ (λ a b. a && b && not (idleIn (t .small .idles) id)) (view-known id) (view-mark t (id .slot) h)))
+      (λ (h : t .small .n ≤ id .slot). rw (view-known id, le-ltb (id .slot) (t .small .n) h))
+      (lt-or-ge (id .slot) (t .small .n))
 
-  view-vacant : (s : ℕ) → s < t .n → vacant (view t) s ≡ vacantIn (t .states) (t .parked) (t .«parked_id» .slot) s
-  view-vacant s h = rw (view-parked t) (ap₂ (λ a b. eqb a EMPTY && not b) (view-state t s h) (go (t .parked)))
+  view-vacant : (s : ℕ) → s < t .small .n → vacant (view t) s ≡ vacantIn (t .states) (t .small .parked) (t .small .«parked_id» .slot) s
+  view-vacant s h = rw (view-parked t) (ap₂ (λ a b. eqb a EMPTY && not b) (view-state t s h) (go (isSet (t .small .parked))))
     where
-      go : (b : Bool) → taken (λ (p : TaskId). eqb (p .slot) s) (cond b (some (t .«parked_id»)) none) ≡ (b && eqb (t .«parked_id» .slot) s)
+      go : (b : Bool) → taken (λ (p : TaskId). eqb (p .slot) s) (cond b (some (t .small .«parked_id»)) none) ≡ (b && eqb (t .small .«parked_id» .slot) s)
       go true = refl
       go false = refl
 
-  pub view-free : freeSlot (view t) ≡ freeIn (t .states) (t .parked) (t .«parked_id» .slot) (t .n)
+  pub view-free : freeSlot (view t) ≡ freeIn (t .states) (t .small .parked) (t .small .«parked_id» .slot) (t .small .n)
   unfolding freeSlot freeIn view
-  view-free = first-tab (vacant (view t)) (vacantIn (t .states) (t .parked) (t .«parked_id» .slot)) (t .n) (λ s. s) view-vacant
+  view-free = first-tab (vacant (view t)) (vacantIn (t .states) (t .small .parked) (t .small .«parked_id» .slot)) (t .small .n) (λ s. s) view-vacant
 
-  pub view-occupied : occupied (view t) ≡ occupiedIn (t .states) (t .n)
+  pub view-occupied : occupied (view t) ≡ occupiedIn (t .states) (t .small .n)
   unfolding view occupiedIn
   view-occupied = refl
 
-  pub view-blocked : blocked (view t) ≡ blockedIn (t .states) (t .n)
+  pub view-blocked : blocked (view t) ≡ blockedIn (t .states) (t .small .n)
   unfolding view blockedIn
   view-blocked = refl
 
 -- the peak raised to what is occupied now
-pub store-noted : (t : Tasks) (k : ℕ) → k ≡ max (t .peak) (occupiedIn (t .states) (t .n)) → view (putRest t (t .parked) (t .«parked_id») (t .overwrites) (t .«block_events») k) ≡ noted (view t)
+pub store-noted : (t : Tasks) (k : ℕ) → k ≡ max (t .small .peak) (occupiedIn (t .states) (t .small .n)) → view (putRest t (t .small .parked) (t .small .«parked_id») (t .small .overwrites) (t .small .«block_events») k) ≡ noted (view t)
 unfolding view occupiedIn cpuAt
 store-noted t k e = ap (λ p. restTo (view t) (view t .parked) (view t .overwrites) (view t .blockEvents) p) e

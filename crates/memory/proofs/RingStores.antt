@@ -26,21 +26,21 @@ abbrev pub headIn : Tasks → ℕ → TaskId
 headIn t c = ringIn t (c * SPAN + headOf t c)
 
 abbrev pub restIn : Tasks → ℕ → List TaskId
-restIn t c = queueAt (t .«ring_slots») (t .«ring_epochs») (t .n) (c * SPAN) (placed (t .n) (headOf t c + 1)) (lenOf t c - 1)
+restIn t c = queueAt (t .«ring_slots») (t .«ring_epochs») (t .small .n) (c * SPAN) (placed (t .small .n) (headOf t c + 1)) (lenOf t c - 1)
 
-pub view-queue : (t : Tasks) (c : ℕ) → c < CPUS → queueOf (view t) c ≡ queueAt (t .«ring_slots») (t .«ring_epochs») (t .n) (c * SPAN) (headOf t c) (lenOf t c)
+pub view-queue : (t : Tasks) (c : ℕ) → c < CPUS → queueOf (view t) c ≡ queueAt (t .«ring_slots») (t .«ring_epochs») (t .small .n) (c * SPAN) (headOf t c) (lenOf t c)
 unfolding cpuAt
 view-queue t c h = ap (λ (k : Cpu). k .queue) (view-cpu t c h)
 
 pub view-split : (t : Tasks) (c : ℕ) → Rep t → c < CPUS → (lenOf t c ≡ 0 → ⊥) → queueOf (view t) c ≡ headIn t c ∷ restIn t c
 view-split t c r hc more =
     view-queue t c hc
-    ∙ ap (λ l. queueAt (t .«ring_slots») (t .«ring_epochs») (t .n) (c * SPAN) (headOf t c) l) (omega arith)
-    ∙ around-pop (ringIn t) (t .n) (c * SPAN) (headOf t c) (lenOf t c - 1) (r .rings c hc .head)
+    ∙ ap (λ l. queueAt (t .«ring_slots») (t .«ring_epochs») (t .small .n) (c * SPAN) (headOf t c) l) (omega arith)
+    ∙ around-pop (ringIn t) (t .small .n) (c * SPAN) (headOf t c) (lenOf t c - 1) (r .rings c hc .head)
 
 -- rings with other arrays, heads and lengths of the same sizes
 pub rep-rings : (t : Tasks) (s e h l : List ℕ) → Rep t → length s ≡ CPUS * SPAN → length e ≡ CPUS * SPAN → length h ≡ CPUS → length l ≡ CPUS
-    → ((c : ℕ) → c < CPUS → (getD h c 0 < t .n) × (getD l c 0 ≤ t .n)) → Rep (putRings t s e h l)
+    → ((c : ℕ) → c < CPUS → (getD h c 0 < t .small .n) × (getD l c 0 ≤ t .small .n)) → Rep (putRings t s e h l)
 rep-rings t s e h l r ls le lh ll fit =
     record {
       some = r .some;
@@ -56,26 +56,28 @@ rep-rings t s e h l r ls le lh ll fit =
       currents = r .currents;
       idles = r .idles;
       rings = λ c p. record { head = fit c p .0; len = fit c p .1 };
+      flags = r .flags;
+      flag = r .flag;
     }
 
 -- ONE MORE AT THE TAIL
 
-module _ (t : Tasks) (c i l : ℕ) (x : TaskId) (r : Rep t) (hc : c < CPUS) (room : lenOf t c < t .n) (p : i ≡ c * SPAN + placed (t .n) (headOf t c + lenOf t c)) (q : l ≡ lenOf t c + 1) where
+module _ (t : Tasks) (c i l : ℕ) (x : TaskId) (r : Rep t) (hc : c < CPUS) (room : lenOf t c < t .small .n) (p : i ≡ c * SPAN + placed (t .small .n) (headOf t c + lenOf t c)) (q : l ≡ lenOf t c + 1) where
   tail-else : (d : ℕ) → (d ≡ c → ⊥) → cpuAt (putTail t c i l x) d ≡ cpuAt t d
   unfolding cpuAt
   tail-else d ne =
-      let lo = placed-lt (t .n) (headOf t c + lenOf t c) (r .some) in
-      ap (λ y. record { queue = y; current = getD (t .currents) d idle; idle = getD (t .idles) d idle })
-      (ap (λ y. queueAt (set (t .«ring_slots») i (x .slot)) (set (t .«ring_epochs») i (x .epoch)) (t .n) (d * SPAN) (headOf t d) y) (getD-set-other (t .lens) c d l 0 ne)
-      ∙ queue-else (t .«ring_slots») (t .«ring_epochs») (t .n) (d * SPAN) (headOf t d) (lenOf t d) i (x .slot) (x .epoch)
-      (λ j _ z. ne (omega (arith, r .most, lo, placed-lt (t .n) (headOf t d + j) (r .some)))))
+      let lo = placed-lt (t .small .n) (headOf t c + lenOf t c) (r .some) in
+      ap (λ y. record { queue = y; current = getD (t .small .currents) d idle; idle = getD (t .small .idles) d idle })
+      (ap (λ y. queueAt (set (t .«ring_slots») i (x .slot)) (set (t .«ring_epochs») i (x .epoch)) (t .small .n) (d * SPAN) (headOf t d) y) (getD-set-other (t .small .lens) c d l 0 ne)
+      ∙ queue-else (t .«ring_slots») (t .«ring_epochs») (t .small .n) (d * SPAN) (headOf t d) (lenOf t d) i (x .slot) (x .epoch)
+      (λ j _ z. ne (omega (arith, r .most, lo, placed-lt (t .small .n) (headOf t d + j) (r .some)))))
 
   tail-here : cpuAt (putTail t c i l x) c ≡ setQueue (cpuAt t c) (cpuAt t c .queue ++ (x ∷ []))
   unfolding cpuAt
   tail-here =
-      ap (λ y. record { queue = y; current = getD (t .currents) c idle; idle = getD (t .idles) c idle })
-      (ap (λ y. queueAt (set (t .«ring_slots») i (x .slot)) (set (t .«ring_epochs») i (x .epoch)) (t .n) (c * SPAN) (headOf t c) y) (getD-set-same (t .lens) c l 0 (omega (arith, r .lens)) ∙ q)
-      ∙ queue-push (t .«ring_slots») (t .«ring_epochs») (t .n) (c * SPAN) (headOf t c) (lenOf t c) i x (r .rings c hc .head) room (omega (arith, r .slots, r .most)) (omega (arith, r .tenures, r .most)) p)
+      ap (λ y. record { queue = y; current = getD (t .small .currents) c idle; idle = getD (t .small .idles) c idle })
+      (ap (λ y. queueAt (set (t .«ring_slots») i (x .slot)) (set (t .«ring_epochs») i (x .epoch)) (t .small .n) (c * SPAN) (headOf t c) y) (getD-set-same (t .small .lens) c l 0 (omega (arith, r .lens)) ∙ q)
+      ∙ queue-push (t .«ring_slots») (t .«ring_epochs») (t .small .n) (c * SPAN) (headOf t c) (lenOf t c) i x (r .rings c hc .head) room (omega (arith, r .slots, r .most)) (omega (arith, r .tenures, r .most)) p)
 
   pub store-tail : view (putTail t c i l x) ≡ pushed (view t) c x
   unfolding view
@@ -86,23 +88,23 @@ module _ (t : Tasks) (c i l : ℕ) (x : TaskId) (r : Rep t) (hc : c < CPUS) (roo
 
   pub rep-tail : Rep (putTail t c i l x)
   rep-tail =
-      rep-rings t _ _ _ _ r (length-set (t .«ring_slots») i (x .slot) ∙ r .slots) (length-set (t .«ring_epochs») i (x .epoch) ∙ r .tenures) (r .heads) (length-set (t .lens) c l ∙ r .lens)
+      rep-rings t _ _ _ _ r (length-set (t .«ring_slots») i (x .slot) ∙ r .slots) (length-set (t .«ring_epochs») i (x .epoch) ∙ r .tenures) (r .heads) (length-set (t .small .lens) c l ∙ r .lens)
       (λ d h. (r .rings d h .head, go d h (ℕ-discrete d c)))
     where
-      go : (d : ℕ) → d < CPUS → Dec (d ≡ c) → getD (set (t .lens) c l) d 0 ≤ t .n
-      go d h (yes e) = rw (e, getD-set-same (t .lens) c l 0 (omega (arith, r .lens))) (omega arith)
-      go d h (no e) = rw (getD-set-other (t .lens) c d l 0 e) (r .rings d h .len)
+      go : (d : ℕ) → d < CPUS → Dec (d ≡ c) → getD (set (t .small .lens) c l) d 0 ≤ t .small .n
+      go d h (yes e) = rw (e, getD-set-same (t .small .lens) c l 0 (omega (arith, r .lens))) (omega arith)
+      go d h (no e) = rw (getD-set-other (t .small .lens) c d l 0 e) (r .rings d h .len)
 
 -- THE HEAD TAKEN
 
-module _ (t : Tasks) (c h l : ℕ) (r : Rep t) (hc : c < CPUS) (p : h ≡ placed (t .n) (headOf t c + 1)) (q : l ≡ lenOf t c - 1) where
+module _ (t : Tasks) (c h l : ℕ) (r : Rep t) (hc : c < CPUS) (p : h ≡ placed (t .small .n) (headOf t c + 1)) (q : l ≡ lenOf t c - 1) where
   head-else : (d : ℕ) → (d ≡ c → ⊥) → cpuAt (putHead t c h l) d ≡ cpuAt t d
   unfolding cpuAt
-  head-else d ne = rw (getD-set-other (t .heads) c d h 0 ne, getD-set-other (t .lens) c d l 0 ne)
+  head-else d ne = rw (getD-set-other (t .small .heads) c d h 0 ne, getD-set-other (t .small .lens) c d l 0 ne)
 
   head-here : cpuAt (putHead t c h l) c ≡ setQueue (cpuAt t c) (restIn t c)
   unfolding cpuAt
-  head-here = rw (getD-set-same (t .heads) c h 0 (omega (arith, r .heads)), getD-set-same (t .lens) c l 0 (omega (arith, r .lens)), p, q)
+  head-here = rw (getD-set-same (t .small .heads) c h 0 (omega (arith, r .heads)), getD-set-same (t .small .lens) c l 0 (omega (arith, r .lens)), p, q)
 
   pub store-head : view (putHead t c h l) ≡ withQueue (view t) c (restIn t c)
   unfolding view
@@ -113,11 +115,11 @@ module _ (t : Tasks) (c h l : ℕ) (r : Rep t) (hc : c < CPUS) (p : h ≡ placed
 
   pub rep-head : Rep (putHead t c h l)
   rep-head =
-      rep-rings t _ _ _ _ r (r .slots) (r .tenures) (length-set (t .heads) c h ∙ r .heads) (length-set (t .lens) c l ∙ r .lens)
+      rep-rings t _ _ _ _ r (r .slots) (r .tenures) (length-set (t .small .heads) c h ∙ r .heads) (length-set (t .small .lens) c l ∙ r .lens)
       (λ d g. go d g (ℕ-discrete d c))
     where
-      go : (d : ℕ) → d < CPUS → Dec (d ≡ c) → (getD (set (t .heads) c h) d 0 < t .n) × (getD (set (t .lens) c l) d 0 ≤ t .n)
+      go : (d : ℕ) → d < CPUS → Dec (d ≡ c) → (getD (set (t .small .heads) c h) d 0 < t .small .n) × (getD (set (t .small .lens) c l) d 0 ≤ t .small .n)
       go d g (yes e) =
-          rw (e, getD-set-same (t .heads) c h 0 (omega (arith, r .heads)), getD-set-same (t .lens) c l 0 (omega (arith, r .lens)), p, q)
-          (placed-lt (t .n) (headOf t c + 1) (r .some), omega (arith, r .rings c hc .len))
-      go d g (no e) = rw (getD-set-other (t .heads) c d h 0 e, getD-set-other (t .lens) c d l 0 e) (r .rings d g .head, r .rings d g .len)
+          rw (e, getD-set-same (t .small .heads) c h 0 (omega (arith, r .heads)), getD-set-same (t .small .lens) c l 0 (omega (arith, r .lens)), p, q)
+          (placed-lt (t .small .n) (headOf t c + 1) (r .some), omega (arith, r .rings c hc .len))
+      go d g (no e) = rw (getD-set-other (t .small .heads) c d h 0 e, getD-set-other (t .small .lens) c d l 0 e) (r .rings d g .head, r .rings d g .len)

@@ -1,13 +1,16 @@
 -- Reading through the view, and what a store into what slots have, into what CPUs have and into the rest is in the model.
 use mathlib.Core.Path.{_≡_, refl, sym, _∙_, ap}
-use mathlib.Core.Bool.{Bool, false, cond}
+use mathlib.Core.Bool.{cond}
 use mathlib.Core.List.{List}
 use mathlib.Core.Option.{some, none}
 use Prim.Native.Nat.{ℕ, _*_, _<_}
 use native.Mathlib.Omega.{arith}
-use lib.ListN.{length, getD, length-set}
+use native.Mathlib.Decide.{ℕ-discrete}
+use lib.ListN.{length, getD, set, take, length-set, List·getD-map}
 use lib.Seq.{take-set-lt, getD-take, getD-set-same, getD-set-other}
+use Rattle.lists.specs.Flags.{FLAGS, isSet}
 use Rattle.lists.specs.Tab.{tab}
+use Rattle.lists.proofs.Basics.{map-set}
 use Rattle.lists.proofs.TabLaws.{length-tab, getD-tab, tab-set}
 use Rattle.ids.specs.declared.TaskId.{TaskId}
 use Rattle.ids.specs.Id.{idle}
@@ -21,7 +24,7 @@ use Rattle.memory.proofs.Puts.{putSlots, putCpus, putRest, putState, pu
 -- READING
 
 module _ (t : Tasks) where
-  pub view-n : view t .n ≡ t .n
+  pub view-n : view t .n ≡ t .small .n
   unfolding view
   view-n = refl
 
@@ -33,27 +36,27 @@ module _ (t : Tasks) where
   unfolding view
   view-cpu c h = getD-tab CPUS (cpuAt t) c noCpu h
 
-  pub view-state : (s : ℕ) → s < t .n → stateOf (view t) s ≡ getD (t .states) s 0
+  pub view-state : (s : ℕ) → s < t .small .n → stateOf (view t) s ≡ getD (t .states) s 0
   unfolding view
-  view-state s h = getD-take (t .n) (t .states) s 0 h
+  view-state s h = getD-take (t .small .n) (t .states) s 0 h
 
-  pub view-epoch : (s : ℕ) → s < t .n → epochOf (view t) s ≡ getD (t .epochs) s 0
+  pub view-epoch : (s : ℕ) → s < t .small .n → epochOf (view t) s ≡ getD (t .epochs) s 0
   unfolding view
-  view-epoch s h = getD-take (t .n) (t .epochs) s 0 h
+  view-epoch s h = getD-take (t .small .n) (t .epochs) s 0 h
 
-  pub view-home : (s : ℕ) → s < t .n → homeOf (view t) s ≡ getD (t .homes) s 0
+  pub view-home : (s : ℕ) → s < t .small .n → homeOf (view t) s ≡ getD (t .homes) s 0
   unfolding view
-  view-home s h = getD-take (t .n) (t .homes) s 0 h
+  view-home s h = getD-take (t .small .n) (t .homes) s 0 h
 
-  pub view-mark : (s : ℕ) → s < t .n → markOf (view t) s ≡ getD (t .marks) s false
+  pub view-mark : (s : ℕ) → s < t .small .n → markOf (view t) s ≡ isSet (getD (t .marks) s 0)
   unfolding view
-  view-mark s h = getD-take (t .n) (t .marks) s false h
+  view-mark s h = List·getD-map isSet (take (t .small .n) (t .marks)) s 0 ∙ ap isSet (getD-take (t .small .n) (t .marks) s 0 h)
 
-  pub view-current : (c : ℕ) → c < CPUS → currentOf (view t) c ≡ getD (t .currents) c idle
+  pub view-current : (c : ℕ) → c < CPUS → currentOf (view t) c ≡ getD (t .small .currents) c idle
   unfolding cpuAt
   view-current c h = ap (λ (k : Cpu). k .current) (view-cpu c h)
 
-  pub view-idle : (c : ℕ) → c < CPUS → idleOf (view t) c ≡ getD (t .idles) c idle
+  pub view-idle : (c : ℕ) → c < CPUS → idleOf (view t) c ≡ getD (t .small .idles) c idle
   unfolding cpuAt
   view-idle c h = ap (λ (k : Cpu). k .idle) (view-cpu c h)
 
@@ -61,45 +64,45 @@ module _ (t : Tasks) where
   unfolding cpuAt
   view-len c h =
       ap (λ (k : Cpu). length (k .queue)) (view-cpu c h)
-      ∙ around-length (idAt (t .«ring_slots») (t .«ring_epochs»)) (t .n) (c * SPAN) (headOf t c) (lenOf t c)
+      ∙ around-length (idAt (t .«ring_slots») (t .«ring_epochs»)) (t .small .n) (c * SPAN) (headOf t c) (lenOf t c)
 
-  pub view-parked : view t .parked ≡ cond (t .parked) (some (t .«parked_id»)) none
+  pub view-parked : view t .parked ≡ cond (isSet (t .small .parked)) (some (t .small .«parked_id»)) none
   unfolding view
   view-parked = refl
 
-  pub view-overwrites : view t .overwrites ≡ t .overwrites
+  pub view-overwrites : view t .overwrites ≡ t .small .overwrites
   unfolding view
   view-overwrites = refl
 
-  pub view-events : view t .blockEvents ≡ t .«block_events»
+  pub view-events : view t .blockEvents ≡ t .small .«block_events»
   unfolding view
   view-events = refl
 
-  pub view-peak : view t .peak ≡ t .peak
+  pub view-peak : view t .peak ≡ t .small .peak
   unfolding view
   view-peak = refl
 
 -- SLOTS
 
-module _ (t : Tasks) (i : ℕ) (h : i < t .n) where
+module _ (t : Tasks) (i : ℕ) (h : i < t .small .n) where
   pub store-state : (v : ℕ) → view (putState t i v) ≡ withState (view t) i v
   unfolding view cpuAt
-  store-state v = rw (take-set-lt (t .n) (t .states) i v h)
+  store-state v = rw (take-set-lt (t .small .n) (t .states) i v h)
 
   pub store-epoch : (v : ℕ) → view (putEpoch t i v) ≡ withEpoch (view t) i v
   unfolding view cpuAt
-  store-epoch v = rw (take-set-lt (t .n) (t .epochs) i v h)
+  store-epoch v = rw (take-set-lt (t .small .n) (t .epochs) i v h)
 
   pub store-home : (v : ℕ) → view (putHome t i v) ≡ withHome (view t) i v
   unfolding view cpuAt
-  store-home v = rw (take-set-lt (t .n) (t .homes) i v h)
+  store-home v = rw (take-set-lt (t .small .n) (t .homes) i v h)
 
-  pub store-mark : (v : Bool) → view (putMark t i v) ≡ withMark (view t) i v
+  pub store-mark : (v : ℕ) → view (putMark t i v) ≡ withMark (view t) i (isSet v)
   unfolding view cpuAt
-  store-mark v = rw (take-set-lt (t .n) (t .marks) i v h)
+  store-mark v = rw (take-set-lt (t .small .n) (t .marks) i v h, map-set isSet (take (t .small .n) (t .marks)) i v)
 
-pub rep-slots : (t : Tasks) (s e h : List ℕ) (k : List Bool) → Rep t → length s ≡ MOST → length e ≡ MOST → length h ≡ MOST → length k ≡ MOST → Rep (putSlots t s e h k)
-rep-slots t s e h k r ls le lh lk =
+pub rep-slots : (t : Tasks) (s e h k : List ℕ) → Rep t → length s ≡ MOST → length e ≡ MOST → length h ≡ MOST → length k ≡ MOST → ((i : ℕ) → i < t .small .n → getD k i 0 < FLAGS) → Rep (putSlots t s e h k)
+rep-slots t s e h k r ls le lh lk fk =
     record {
       some = r .some;
       most = r .most;
@@ -114,20 +117,28 @@ rep-slots t s e h k r ls le lh lk =
       currents = r .currents;
       idles = r .idles;
       rings = λ c p. record { head = r .rings c p .head; len = r .rings c p .len };
+      flags = fk;
+      flag = r .flag;
     }
 
 module _ (t : Tasks) (i : ℕ) (r : Rep t) where
   pub rep-state : (v : ℕ) → Rep (putState t i v)
-  rep-state v = rep-slots t _ _ _ _ r (length-set (t .states) i v ∙ r .states) (r .epochs) (r .homes) (r .marks)
+  rep-state v = rep-slots t _ _ _ _ r (length-set (t .states) i v ∙ r .states) (r .epochs) (r .homes) (r .marks) (r .flags)
 
   pub rep-epoch : (v : ℕ) → Rep (putEpoch t i v)
-  rep-epoch v = rep-slots t _ _ _ _ r (r .states) (length-set (t .epochs) i v ∙ r .epochs) (r .homes) (r .marks)
+  rep-epoch v = rep-slots t _ _ _ _ r (r .states) (length-set (t .epochs) i v ∙ r .epochs) (r .homes) (r .marks) (r .flags)
 
   pub rep-home : (v : ℕ) → Rep (putHome t i v)
-  rep-home v = rep-slots t _ _ _ _ r (r .states) (r .epochs) (length-set (t .homes) i v ∙ r .homes) (r .marks)
+  rep-home v = rep-slots t _ _ _ _ r (r .states) (r .epochs) (length-set (t .homes) i v ∙ r .homes) (r .marks) (r .flags)
 
-  pub rep-mark : (v : Bool) → Rep (putMark t i v)
-  rep-mark v = rep-slots t _ _ _ _ r (r .states) (r .epochs) (r .homes) (length-set (t .marks) i v ∙ r .marks)
+  pub rep-mark : i < t .small .n → (v : ℕ) → v < FLAGS → Rep (putMark t i v)
+  rep-mark near v f =
+      rep-slots t _ _ _ _ r (r .states) (r .epochs) (r .homes) (length-set (t .marks) i v ∙ r .marks)
+      (λ j h. go j h (ℕ-discrete j i))
+    where
+      go : (j : ℕ) → j < t .small .n → Dec (j ≡ i) → getD (set (t .marks) i v) j 0 < FLAGS
+      go j h (yes e) = rw (e, getD-set-same (t .marks) i v 0 (omega (arith, r .marks, r .most))) f
+      go j h (no e) = rw (getD-set-other (t .marks) i j v 0 e) (r .flags j h)
 
 -- CURRENTS AND IDLES
 
@@ -139,11 +150,11 @@ store-at t u c hc same else = same ∙ rw (tab-set CPUS (cpuAt t) (cpuAt u) c el
 module _ (t : Tasks) (c : ℕ) (r : Rep t) (hc : c < CPUS) (x : TaskId) where
   current-at : (d : ℕ) → (d ≡ c → ⊥) → cpuAt (putCurrent t c x) d ≡ cpuAt t d
   unfolding cpuAt
-  current-at d ne = rw (getD-set-other (t .currents) c d x idle ne)
+  current-at d ne = rw (getD-set-other (t .small .currents) c d x idle ne)
 
   current-here : cpuAt (putCurrent t c x) c ≡ record { queue = cpuAt t c .queue; current = x; idle = cpuAt t c .idle }
   unfolding cpuAt
-  current-here = rw (getD-set-same (t .currents) c x idle (omega (arith, r .currents)))
+  current-here = rw (getD-set-same (t .small .currents) c x idle (omega (arith, r .currents)))
 
   pub store-current : view (putCurrent t c x) ≡ withCpu (view t) c (record { queue = queueOf (view t) c; current = x; idle = idleOf (view t) c })
   unfolding view
@@ -154,11 +165,11 @@ module _ (t : Tasks) (c : ℕ) (r : Rep t) (hc : c < CPUS) (x : TaskId) where
 
   owner-at : (d : ℕ) → (d ≡ c → ⊥) → cpuAt (putOwner t c x) d ≡ cpuAt t d
   unfolding cpuAt
-  owner-at d ne = rw (getD-set-other (t .currents) c d x idle ne, getD-set-other (t .idles) c d x idle ne)
+  owner-at d ne = rw (getD-set-other (t .small .currents) c d x idle ne, getD-set-other (t .small .idles) c d x idle ne)
 
   owner-here : cpuAt (putOwner t c x) c ≡ record { queue = cpuAt t c .queue; current = x; idle = x }
   unfolding cpuAt
-  owner-here = rw (getD-set-same (t .currents) c x idle (omega (arith, r .currents)), getD-set-same (t .idles) c x idle (omega (arith, r .idles)))
+  owner-here = rw (getD-set-same (t .small .currents) c x idle (omega (arith, r .currents)), getD-set-same (t .small .idles) c x idle (omega (arith, r .idles)))
 
   pub store-owner : view (putOwner t c x) ≡ withCpu (view t) c (record { queue = queueOf (view t) c; current = x; idle = x })
   unfolding view
@@ -183,22 +194,24 @@ module _ (t : Tasks) (c : ℕ) (r : Rep t) (hc : c < CPUS) (x : TaskId) where
         currents = lk;
         idles = li;
         rings = λ c p. record { head = r .rings c p .head; len = r .rings c p .len };
+        flags = r .flags;
+        flag = r .flag;
       }
 
   pub rep-current : Rep (putCurrent t c x)
-  rep-current = rep-cpus _ _ (length-set (t .currents) c x ∙ r .currents) (r .idles)
+  rep-current = rep-cpus _ _ (length-set (t .small .currents) c x ∙ r .currents) (r .idles)
 
   pub rep-owner : Rep (putOwner t c x)
-  rep-owner = rep-cpus _ _ (length-set (t .currents) c x ∙ r .currents) (length-set (t .idles) c x ∙ r .idles)
+  rep-owner = rep-cpus _ _ (length-set (t .small .currents) c x ∙ r .currents) (length-set (t .small .idles) c x ∙ r .idles)
 
 -- THE REST
 
-pub store-rest : (t : Tasks) (p : Bool) (x : TaskId) (o b k : ℕ) → view (putRest t p x o b k) ≡ restTo (view t) (cond p (some x) none) o b k
+pub store-rest : (t : Tasks) (p : ℕ) (x : TaskId) (o b k : ℕ) → view (putRest t p x o b k) ≡ restTo (view t) (cond (isSet p) (some x) none) o b k
 unfolding view cpuAt
 store-rest t p x o b k = refl
 
-pub rep-rest : (t : Tasks) (p : Bool) (x : TaskId) (o b k : ℕ) → Rep t → Rep (putRest t p x o b k)
-rep-rest t p x o b k r =
+pub rep-rest : (t : Tasks) (p : ℕ) (x : TaskId) (o b k : ℕ) → p < FLAGS → Rep t → Rep (putRest t p x o b k)
+rep-rest t p x o b k f r =
     record {
       some = r .some;
       most = r .most;
@@ -213,4 +226,6 @@ rep-rest t p x o b k r =
       currents = r .currents;
       idles = r .idles;
       rings = λ c p. record { head = r .rings c p .head; len = r .rings c p .len };
+      flags = r .flags;
+      flag = f;
     }

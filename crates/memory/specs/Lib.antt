@@ -1,2 +1,4 @@
 pub mod View
+pub mod Lent
 pub mod Parts
+pub mod Blank

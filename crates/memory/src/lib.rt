@@ -1,13 +1,17 @@
-// The task table in memory: one record by value, with states, epochs, homes and marks side by side. Long arrays are arrays of
-// numbers, so that they can be lent and stored to in place.
+// The task table in memory: one record, with states, epochs, homes and marks side by side, and beside the arrays the small part that
+// is handed on by value. The arrays are arrays of numbers, so that they can be lent: an inner call stores into them in place.
 ghost use mathlib.Core.Path.{_≡_};
 ghost use Prim.Native.Nat.{_+_, _*_, _≤_, _<_};
+ghost use Rattle.lists.specs.Flags.{FLAGS};
+ghost use Rattle.lists.specs.Search.{one-if};
 ghost use Rattle.answers.specs.Answers.{ackReply};
 ghost use Rattle.answers.specs.Contract.{Makes};
 ghost use Rattle.runqueue.specs.Ring.{placed};
 ghost use Rattle.model.specs.Model.{CPUS};
 ghost use Rattle.model.specs.Steps.{newStep};
-ghost use Rattle.memory.specs.View.{SPAN, Blank, table};
+ghost use Rattle.memory.specs.Blank.{BlankSmall};
+ghost use Rattle.memory.specs.Lent.{left};
+ghost use Rattle.memory.specs.View.{SPAN, table};
 use answers::Ack;
 use answers::Named;
 use answers::Refusal;
@@ -25,24 +29,30 @@ pub const RUNNING: u8 = 2;
 
 pub const BLOCKED: u8 = 3;
 
-// Of the 64 places for slots only the first n count. The ring of CPU c stands at c * 64, in two arrays: the slots of the ids
-// and their epochs.
+// The table without its arrays. A flag is a byte: 0 or 1 in a sound table, as a state is one of the four codes.
 #[repr(C)]
-pub struct Tasks {
+pub struct Small {
     pub n: usize,
     pub heads: [usize; 2],
     pub lens: [usize; 2],
     pub currents: [TaskId; 2],
     pub idles: [TaskId; 2],
-    pub parked: bool,
+    pub parked: u8,
     pub parked_id: TaskId,
     pub overwrites: u32,
     pub block_events: u32,
     pub peak: u32,
+}
+
+// Of the 64 places for slots only the first n count. The ring of CPU c stands at c * 64, in two arrays: the slots of the ids
+// and their epochs.
+#[repr(C)]
+pub struct Tasks {
+    pub small: Small,
     pub states: [u8; 64],
     pub epochs: [u16; 64],
     pub homes: [u8; 64],
-    pub marks: [bool; 64],
+    pub marks: [u8; 64],
     pub ring_slots: [u16; 128],
     pub ring_epochs: [u16; 128],
 }
@@ -63,6 +73,76 @@ pub struct Gave {
     pub answer: Named,
 }
 
+// The same of a call whose arrays are lent: they are changed where they lie, and the small part comes back.
+pub struct LentAck {
+    pub small: Small,
+    pub answer: Ack,
+}
+
+pub struct LentTold {
+    pub small: Small,
+    pub answer: Told,
+}
+
+pub struct LentNamed {
+    pub small: Small,
+    pub answer: Named,
+}
+
+// What a table holds beside its arrays when it is made.
+fn new_small(n: usize) -> Small
+    ensures { λ r. ⌜ BlankSmall n r ⌝ }
+{
+    Small {
+        n: n,
+        heads: [0; 2],
+        lens: [0; 2],
+        currents: [Tasks::IDLE; 2],
+        idles: [Tasks::IDLE; 2],
+        parked: 0,
+        parked_id: Tasks::IDLE,
+        overwrites: 0,
+        block_events: 0,
+        peak: 0,
+    }
+}
+
+// A table is made where its arrays lie.
+pub fn new_at(
+    states: &mut [u8; 64],
+    epochs: &mut [u16; 64],
+    homes: &mut [u8; 64],
+    marks: &mut [u8; 64],
+    ring_slots: &mut [u16; 128],
+    ring_epochs: &mut [u16; 128],
+    n: usize,
+) -> LentAck
+    ensures { λ r. ⌜ Makes table (left states epochs homes marks «ring_slots» «ring_epochs» (r .small)) (ackReply (r .answer)) (newStep n) ⌝ }
+{
+    *states = [0; 64];
+    *epochs = [0; 64];
+    *homes = [0; 64];
+    *marks = [0; 64];
+    *ring_slots = [0; 128];
+    *ring_epochs = [0; 128];
+    if n < 1 {
+        return LentAck {
+            small: new_small(1),
+            answer: Ack::Refused(Refusal::BadSize),
+        };
+    }
+    if 64 < n {
+        return LentAck {
+            small: new_small(1),
+            answer: Ack::Refused(Refusal::BadSize),
+        };
+    }
+    LentAck {
+        small: new_small(n),
+        answer: Ack::Done,
+    }
+}
+
 impl Tasks {
     // The idle task of CPU 0.
     pub const IDLE: TaskId = TaskId::IDLE;
@@ -71,46 +151,43 @@ impl Tasks {
     pub fn new(n: usize) -> Acked
         ensures { λ r. ⌜ Makes table (r .tasks) (ackReply (r .answer)) (newStep n) ⌝ }
     {
-        if n < 1 {
-            return Acked {
-                tasks: Tasks::blank(1),
-                answer: Ack::Refused(Refusal::BadSize),
-            };
-        }
-        if 64 < n {
-            return Acked {
-                tasks: Tasks::blank(1),
-                answer: Ack::Refused(Refusal::BadSize),
-            };
-        }
+        let mut states = [0u8; 64];
+        let mut epochs = [0u16; 64];
+        let mut homes = [0u8; 64];
+        let mut marks = [0u8; 64];
+        let mut ring_slots = [0u16; 128];
+        let mut ring_epochs = [0u16; 128];
+        let made = new_at(
+            &mut states,
+            &mut epochs,
+            &mut homes,
+            &mut marks,
+            &mut ring_slots,
+            &mut ring_epochs,
+            n,
+        );
+        let small = made.small;
+        let answer = made.answer;
         Acked {
-            tasks: Tasks::blank(n),
-            answer: Ack::Done,
+            tasks: Tasks {
+                small: small,
+                states: states,
+                epochs: epochs,
+                homes: homes,
+                marks: marks,
+                ring_slots: ring_slots,
+                ring_epochs: ring_epochs,
+            },
+            answer: answer,
         }
     }
+}
 
-    fn blank(n: usize) -> Tasks
-        ensures { λ r. ⌜ Blank n r ⌝ }
-    {
-        Tasks {
-            n: n,
-            heads: [0; 2],
-            lens: [0; 2],
-            currents: [Tasks::IDLE; 2],
-            idles: [Tasks::IDLE; 2],
-            parked: false,
-            parked_id: Tasks::IDLE,
-            overwrites: 0,
-            block_events: 0,
-            peak: 0,
-            states: [0; 64],
-            epochs: [0; 64],
-            homes: [0; 64],
-            marks: [false; 64],
-            ring_slots: [0; 128],
-            ring_epochs: [0; 128],
-        }
-    }
+// The byte of a flag.
+pub fn flag(b: bool) -> u8
+    ensures { λ r. ⌜ (r ≡ one-if b) × (r < FLAGS) ⌝ }
+{
+    if b { 1 } else { 0 }
 }
 
 // The index of a place of a CPU's ring, counted from the ring's start. Nothing else knows where a ring stands.

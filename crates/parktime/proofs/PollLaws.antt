@@ -9,7 +9,7 @@ use native.Mathlib.Omega.{arith}
 use lib.ListN.{length, getD, set, take, drop, length-map, length-append, length-drop}
 use lib.Seq.{take-suc, take-all, drop-cons, set-at}
 use Rattle.lists.specs.Entries.{taken, freed}
-use Rattle.lists.proofs.EntriesLaws.{Freeing, freeing-start, freeing-all, taken-append, taken-hit, taken-pass, taken-nil}
+use Rattle.lists.proofs.EntriesLaws.{freeing-all, taken-append, taken-hit, taken-pass, taken-nil}
 use Rattle.ids.specs.Id.{packed}
 use Rattle.answers.specs.Reply.{refused, number}
 use Rattle.answers.specs.Contract.{Does, lent}
@@ -19,7 +19,7 @@ use Rattle.parktime.specs.Deadlines.{Deadline, Deadlines, PLACES, deadli
 use Rattle.parktime.specs.Steps.{dueIds, raws, pollStep}
 use Rattle.parktime.proofs.Cases.{poll-writes, poll-refuses}
 use Rattle.parktime.proofs.Keeps.{poll-keeps}
-use Rattle.parktime.proofs.Laws.{empty, held, taken-held, here, frees, leaves}
+use Rattle.parktime.proofs.Laws.{empty, held, taken-held, Emptying, emptying-start, here, frees, leaves}
 
 module _ (now : ℕ) where
   ids-nil : dueIds now [] ≡ []
@@ -40,15 +40,15 @@ module _ (now : ℕ) where
 
 -- a scan that has passed the first i, k of which had come
 pub record Polling (ds : Deadlines) (now : ℕ) (out₀ : List ℕ) (i k : ℕ) (u : Table) (out : List ℕ) : Type 0 where
-  pub table : Freeing (due now) ds i (view u)
+  pub table : Emptying (due now) ds i u
   pub count : k ≡ length (dueIds now (take i ds))
   pub most : k ≤ i
   pub written : out ≡ raws (dueIds now (take i ds)) ++ drop k out₀
 
 module _ (now : ℕ) (out₀ : List ℕ) where
-  pub polling-start : (t : Table) → Polling (view t) now out₀ 0 0 t out₀
-  polling-start t =
-      record { table = freeing-start (due now) (view t); count = rw ids-nil; most = omega arith; written = rw ids-nil }
+  pub polling-start : (t : Table) → Sound t → Polling (view t) now out₀ 0 0 t out₀
+  polling-start t s =
+      record { table = emptying-start (due now) t s; count = rw ids-nil; most = omega arith; written = rw ids-nil }
 
   module _ (ds : Deadlines) (i k : ℕ) (u : Table) (out : List ℕ) (s : Polling ds now out₀ i k u out) where
     -- the output keeps its length
@@ -97,9 +97,10 @@ module _ (t : Table) (s : Sound t) (now : ℕ) (out : List ℕ) where
       → Does (lent deadlines) (t, out) (u, out′) (number k) (pollStep (view t, out) now)
   polled i k u out′ l h p =
       let w = poll-writes (view t) out now l in
-      let all : take i (view t) ≡ view t = take-all i (view t) (omega (arith, s .places)) in
+      let all : take i (view t) ≡ view t = take-all i (view t) (omega (arith, s .plain .places)) in
       let n : k ≡ length (dueIds now (view t)) = p .count ∙ rw all in
-      let table : view u ≡ freed (due now) (view t) = freeing-all (due now) (view t) i (view u) (p .table) (omega (arith, s .places)) in
+      let table : view u ≡ freed (due now) (view t) = freeing-all (due now) (view t) i (view u) (p .table .plain) (omega (arith, s .plain .places)) in
       let buffer : out′ ≡ raws (dueIds now (view t)) ++ drop (length (dueIds now (view t))) out = p .written ∙ rw (all, n) in
       let after : (view u, out′) ≡ pollStep (view t, out) now .after = rw (w, table, buffer) in
-      does (lent deadlines) (t, out) (u, out′) (number k) (pollStep (view t, out) now) (λ z. z) (rw (w, n)) after (rw (ap (λ p. p .0) after) (poll-keeps (view t) s out now))
+      does (lent deadlines) (t, out) (u, out′) (number k) (pollStep (view t, out) now) (λ z. z) (rw (w, n)) after
+      (record { plain = rw (ap (λ p. p .0) after) (poll-keeps (view t) (s .plain) out now); flags = p .table .flags })

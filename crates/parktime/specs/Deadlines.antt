@@ -3,9 +3,11 @@ use mathlib.Core.Path.{_≡_}
 use mathlib.Core.Bool.{Bool, cond}
 use mathlib.Core.List.{List, map}
 use mathlib.Core.Option.{Option, some, none}
-use Prim.Native.Nat.{ℕ}
+use Prim.Native.Nat.{ℕ, _<_}
 use lib.ListN.{length}
 use lib.Dec.{leb}
+use Rattle.lists.specs.Flags.{FLAGS, isSet}
+use Rattle.lists.specs.Each.{Each}
 use Rattle.lists.specs.Entries.{Distinct}
 use Rattle.ids.specs.declared.TaskId.{TaskId}
 use Rattle.ids.specs.Id.{sameId}
@@ -26,7 +28,7 @@ Deadlines = List (Option Deadline)
 
 -- what an entry in memory is on paper: one that is not live holds nothing
 abbrev pub deadlineOf : Entry → Option Deadline
-deadlineOf e = cond (e .live) (some (record { id = e .task; at = e .deadline })) none
+deadlineOf e = cond (isSet (e .live)) (some (record { id = e .task; at = e .deadline })) none
 
 unfoldable pub view : Table → Deadlines
 view t = map deadlineOf (t .entries)
@@ -46,8 +48,13 @@ pub record SoundDeadlines (ds : Deadlines) : Type 0 where
   pub places : length ds ≡ PLACES
   pub ids : Distinct sameTask ds
 
-abbrev pub Sound : Table → Type 0
-Sound t = SoundDeadlines (view t)
+-- every flag is known
+abbrev pub FlagsKnown : Table → Type 0
+FlagsKnown t = Each (λ (e : Entry). e .live < FLAGS) (t .entries)
+
+pub record Sound (t : Table) : Type 0 where
+  pub plain : SoundDeadlines (view t)
+  pub flags : FlagsKnown t
 
 abbrev pub deadlines : Kind
 deadlines = record { Memory = Table; Plain = Deadlines; Sound = Sound; view = view }

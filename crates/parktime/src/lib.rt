@@ -15,9 +15,10 @@ use ids::TaskId;
 
 pub const MAX_ARMED: usize = 16;
 
+// `live` is a flag in a byte: 0 or 1 in a sound table.
 #[repr(C)]
 pub struct Entry {
-    pub live: bool,
+    pub live: u8,
     pub task: TaskId,
     pub deadline: u64,
 }
@@ -41,7 +42,7 @@ pub struct Polled {
 
 impl Entry {
     pub const EMPTY: Entry = Entry {
-        live: false,
+        live: 0,
         task: TaskId::IDLE,
         deadline: 0,
     };
@@ -50,7 +51,7 @@ impl Entry {
     fn is_for(self, id: TaskId) -> bool
         ensures { λ r. ⌜ r ≡ taken (isFor id) (deadlineOf self) ⌝ }
     {
-        if !self.live {
+        if self.live == 0 {
             return false;
         }
         let task = self.task;
@@ -61,7 +62,7 @@ impl Entry {
     fn is_due(self, now: u64) -> bool
         ensures { λ r. ⌜ r ≡ taken (due now) (deadlineOf self) ⌝ }
     {
-        if !self.live {
+        if self.live == 0 {
             return false;
         }
         self.deadline <= now
@@ -77,14 +78,17 @@ impl Table {
         }
     }
 
-    // Whether no task has two deadlines.
+    // Whether every flag is one, and no task has two deadlines.
     pub fn sound(self) -> bool
         ensures { λ r. ⌜ Tells r (Sound self) ⌝ }
     {
         let mut i = 0;
         while i < MAX_ARMED {
             let e = self.entries[i];
-            if e.live {
+            if 1 < e.live {
+                return false;
+            }
+            if e.live != 0 {
                 let mut j = i + 1;
                 while j < MAX_ARMED {
                     let f = self.entries[j];
@@ -121,7 +125,7 @@ impl Table {
         let mut i = 0;
         while i < MAX_ARMED {
             let e = self.entries[i];
-            if !e.live {
+            if e.live == 0 {
                 return i;
             }
             i = i + 1;
@@ -147,7 +151,7 @@ impl Table {
         ensures { λ r. ⌜ Does deadlines self (r .table) (ackReply (r .answer)) (armStep (view self) task deadline) ⌝ }
     {
         let e = Entry {
-            live: true,
+            live: 1,
             task: task,
             deadline: deadline,
         };

@@ -15,7 +15,7 @@ use Rattle.output.specs.Output.{field, endText}
 pub field-short : (v : ℕ) → length (field v) ≤ 21
 field-short v = omega (arith, decimal-short v)
 
-pub end-is : (t : Memory) (n live others peak : ℕ) → live ≡ occupiedIn (t .tasks .states) (t .tasks .n) → others ≡ live - 2 → peak ≡ t .tasks .peak
+pub end-is : (t : Memory) (n live others peak : ℕ) → live ≡ occupiedIn (t .tasks .states) (t .tasks .small .n) → others ≡ live - 2 → peak ≡ t .tasks .small .peak
     → bytes "end" ++ field n ++ field live ++ field others ++ field peak ++ bytes "\n" ≡ endText n (view t)
 unfolding endText tasks-kind.view
 end-is t n live others peak e f g = let z = e ∙ sym (view-occupied (t .tasks)) in rw (f, g, z)

@@ -143,8 +143,9 @@ pub fn finish(out: &mut [u8], place: Place) -> usize
 {
     let lines = place.number;
     let tasks = place.tasks;
-    let n = tasks.n;
-    let peak = wide(tasks.peak);
+    let small = tasks.small;
+    let n = small.n;
+    let peak = wide(small.peak);
     let live = scans::occupied(&tasks.states, n);
     let others = agents(live);
     let a = print::text(out, 0, b"end");

@@ -54,23 +54,23 @@ module _ (t : Tasks) (w : Sound t) (c : ℕ) where
       pub walk-start : Walked t p 0
       walk-start = passed-none (stealeable (view t)) (queueOf (view t) p)
 
-      entry : (at j : ℕ) → j < lenOf t p → at ≡ p * SPAN + placed (t .n) (headOf t p + j) → idAt (t .«ring_slots») (t .«ring_epochs») at ≡ getD (queueOf (view t) p) j idle
+      entry : (at j : ℕ) → j < lenOf t p → at ≡ p * SPAN + placed (t .small .n) (headOf t p + j) → idAt (t .«ring_slots») (t .«ring_epochs») at ≡ getD (queueOf (view t) p) j idle
       unfolding around
       entry at j h e =
           ap (idAt (t .«ring_slots») (t .«ring_epochs»)) e
-          ∙ sym (ap (λ q. getD q j idle) (view-queue t p peer-in) ∙ getD-tab (lenOf t p) (λ i. idAt (t .«ring_slots») (t .«ring_epochs») (p * SPAN + placed (t .n) (headOf t p + i))) j idle h)
+          ∙ sym (ap (λ q. getD q j idle) (view-queue t p peer-in) ∙ getD-tab (lenOf t p) (λ i. idAt (t .«ring_slots») (t .«ring_epochs») (p * SPAN + placed (t .small .n) (headOf t p + i))) j idle h)
 
-      module _ (at j : ℕ) (l : Walked t p j) (h : j < lenOf t p) (e : at ≡ p * SPAN + placed (t .n) (headOf t p + j)) where
+      module _ (at j : ℕ) (l : Walked t p j) (h : j < lenOf t p) (e : at ≡ p * SPAN + placed (t .small .n) (headOf t p + j)) where
         inside : j < length (queueOf (view t) p)
         inside = omega (arith, view-len t p peer-in)
 
-        test : (b : Bool) → stealeableIn (t .epochs) (t .marks) (t .n) (t .idles) (idAt (t .«ring_slots») (t .«ring_epochs») at) ≡ b → stealeable (view t) (getD (queueOf (view t) p) j idle) ≡ b
+        test : (b : Bool) → stealeableIn (t .epochs) (t .marks) (t .small .n) (t .small .idles) (idAt (t .«ring_slots») (t .«ring_epochs») at) ≡ b → stealeable (view t) (getD (queueOf (view t) p) j idle) ≡ b
         test b s = ap (stealeable (view t)) (sym (entry at j h e)) ∙ view-stealeable t (w .rep) (idAt (t .«ring_slots») (t .«ring_epochs») at) ∙ s
 
-        pub walk-on : stealeableIn (t .epochs) (t .marks) (t .n) (t .idles) (idAt (t .«ring_slots») (t .«ring_epochs») at) ≡ false → Walked t p (j + 1)
+        pub walk-on : stealeableIn (t .epochs) (t .marks) (t .small .n) (t .small .idles) (idAt (t .«ring_slots») (t .«ring_epochs») at) ≡ false → Walked t p (j + 1)
         walk-on s = passed-more (stealeable (view t)) (queueOf (view t) p) j idle l inside (test false s)
 
-        pub walk-found : stealeableIn (t .epochs) (t .marks) (t .n) (t .idles) (idAt (t .«ring_slots») (t .«ring_epochs») at) ≡ true → Reads table t (told true) (canStealReply (view t) c)
+        pub walk-found : stealeableIn (t .epochs) (t .marks) (t .small .n) (t .small .idles) (idAt (t .«ring_slots») (t .«ring_epochs») at) ≡ true → Reads table t (told true) (canStealReply (view t) c)
         unfolding lootAt
         walk-found s =
             let k = passed-hit (stealeable (view t)) (queueOf (view t) p) j idle l inside (test true s) in

@@ -1,4 +1,5 @@
-// By the inner calls: a table is tested once, before the loop, and one that is not sound gives 0.
+// By the inner calls: a table is taken apart, since its arrays are lent, and tested once, before the loop. One that is not sound
+// gives 0.
 use crate::sums;
 use ids::TaskId;
 use ids::Token;
@@ -12,17 +13,33 @@ use wake::WakeQueue;
 // A task gives up CPU 0 and queues again.
 #[no_mangle]
 pub extern "C" fn bredumalt_known_yield(start: Tasks, rounds: u32) -> u64 {
-    let mut t = start;
-    if !checks::sound(t) {
+    let mut states = start.states;
+    let mut epochs = start.epochs;
+    let mut homes = start.homes;
+    let mut marks = start.marks;
+    let mut ring_slots = start.ring_slots;
+    let mut ring_epochs = start.ring_epochs;
+    let mut small = start.small;
+    if !checks::sound(start) {
         return 0;
     }
     let mut sum = 0u64;
     let mut left = rounds;
     while 0 < left {
         left = left - 1;
-        let done = switch::switch_on_in(t, 0, Kind::Yield);
+        let done = switch::switch_on_in(
+            &mut states,
+            &mut epochs,
+            &mut homes,
+            &mut marks,
+            &mut ring_slots,
+            &mut ring_epochs,
+            small,
+            0,
+            Kind::Yield,
+        );
         let answer = done.answer;
-        t = done.tasks;
+        small = done.small;
         sum = sums::decided(sum, answer);
     }
     sum
@@ -31,46 +48,128 @@ pub extern "C" fn bredumalt_known_yield(start: Tasks, rounds: u32) -> u64 {
 // Eight calls on two CPUs: one task is blocked and woken, one admitted, one ends and is collected.
 #[no_mangle]
 pub extern "C" fn bredumalt_known_mix(start: Tasks, rounds: u32) -> u64 {
-    let mut t = start;
-    if !checks::sound(t) {
+    let mut states = start.states;
+    let mut epochs = start.epochs;
+    let mut homes = start.homes;
+    let mut marks = start.marks;
+    let mut ring_slots = start.ring_slots;
+    let mut ring_epochs = start.ring_epochs;
+    let mut small = start.small;
+    if !checks::sound(start) {
         return 0;
     }
     let mut sum = 0u64;
     let mut left = rounds;
     while 0 < left {
         left = left - 1;
-        let done = switch::switch_on_in(t, 0, Kind::Yield);
+        let done = switch::switch_on_in(
+            &mut states,
+            &mut epochs,
+            &mut homes,
+            &mut marks,
+            &mut ring_slots,
+            &mut ring_epochs,
+            small,
+            0,
+            Kind::Yield,
+        );
         let answer = done.answer;
-        t = done.tasks;
+        small = done.small;
         let id = sums::runs(answer);
         sum = sums::decided(sum, answer);
-        let done = moves::admit_on_in(t, 1);
+        let done = moves::admit_on_in(
+            &mut states,
+            &mut epochs,
+            &mut homes,
+            &mut marks,
+            &mut ring_slots,
+            &mut ring_epochs,
+            small,
+            1,
+        );
         let answer = done.answer;
-        t = done.tasks;
+        small = done.small;
         sum = sums::named(sum, answer);
-        let done = switch::switch_on_in(t, 0, Kind::Block);
+        let done = switch::switch_on_in(
+            &mut states,
+            &mut epochs,
+            &mut homes,
+            &mut marks,
+            &mut ring_slots,
+            &mut ring_epochs,
+            small,
+            0,
+            Kind::Block,
+        );
         let answer = done.answer;
-        t = done.tasks;
+        small = done.small;
         sum = sums::decided(sum, answer);
-        let done = switch::switch_on_in(t, 1, Kind::Preempt);
+        let done = switch::switch_on_in(
+            &mut states,
+            &mut epochs,
+            &mut homes,
+            &mut marks,
+            &mut ring_slots,
+            &mut ring_epochs,
+            small,
+            1,
+            Kind::Preempt,
+        );
         let answer = done.answer;
-        t = done.tasks;
+        small = done.small;
         sum = sums::decided(sum, answer);
-        let done = moves::wake_in(t, id);
+        let done = moves::wake_in(
+            &mut states,
+            &mut epochs,
+            &mut homes,
+            &mut marks,
+            &mut ring_slots,
+            &mut ring_epochs,
+            small,
+            id,
+        );
         let answer = done.answer;
-        t = done.tasks;
+        small = done.small;
         sum = sums::told(sum, answer);
-        let done = switch::switch_on_in(t, 1, Kind::Yield);
+        let done = switch::switch_on_in(
+            &mut states,
+            &mut epochs,
+            &mut homes,
+            &mut marks,
+            &mut ring_slots,
+            &mut ring_epochs,
+            small,
+            1,
+            Kind::Yield,
+        );
         let answer = done.answer;
-        t = done.tasks;
+        small = done.small;
         sum = sums::decided(sum, answer);
-        let done = switch::switch_on_in(t, 1, Kind::Exit);
+        let done = switch::switch_on_in(
+            &mut states,
+            &mut epochs,
+            &mut homes,
+            &mut marks,
+            &mut ring_slots,
+            &mut ring_epochs,
+            small,
+            1,
+            Kind::Exit,
+        );
         let answer = done.answer;
-        t = done.tasks;
+        small = done.small;
         sum = sums::decided(sum, answer);
-        let done = moves::collect_in(t);
+        let done = moves::collect_in(
+            &mut states,
+            &mut epochs,
+            &mut homes,
+            &mut marks,
+            &mut ring_slots,
+            &mut ring_epochs,
+            small,
+        );
         let answer = done.answer;
-        t = done.tasks;
+        small = done.small;
         sum = sums::named(sum, answer);
     }
     sum
@@ -79,25 +178,60 @@ pub extern "C" fn bredumalt_known_mix(start: Tasks, rounds: u32) -> u64 {
 // The only task but idle blocks, is woken, and runs again when idle yields.
 #[no_mangle]
 pub extern "C" fn bredumalt_known_wake(start: Tasks, id: TaskId, rounds: u32) -> u64 {
-    let mut t = start;
-    if !checks::sound(t) {
+    let mut states = start.states;
+    let mut epochs = start.epochs;
+    let mut homes = start.homes;
+    let mut marks = start.marks;
+    let mut ring_slots = start.ring_slots;
+    let mut ring_epochs = start.ring_epochs;
+    let mut small = start.small;
+    if !checks::sound(start) {
         return 0;
     }
     let mut sum = 0u64;
     let mut left = rounds;
     while 0 < left {
         left = left - 1;
-        let done = switch::switch_on_in(t, 0, Kind::Block);
+        let done = switch::switch_on_in(
+            &mut states,
+            &mut epochs,
+            &mut homes,
+            &mut marks,
+            &mut ring_slots,
+            &mut ring_epochs,
+            small,
+            0,
+            Kind::Block,
+        );
         let answer = done.answer;
-        t = done.tasks;
+        small = done.small;
         sum = sums::decided(sum, answer);
-        let done = moves::wake_in(t, id);
+        let done = moves::wake_in(
+            &mut states,
+            &mut epochs,
+            &mut homes,
+            &mut marks,
+            &mut ring_slots,
+            &mut ring_epochs,
+            small,
+            id,
+        );
         let answer = done.answer;
-        t = done.tasks;
+        small = done.small;
         sum = sums::told(sum, answer);
-        let done = switch::switch_on_in(t, 0, Kind::Yield);
+        let done = switch::switch_on_in(
+            &mut states,
+            &mut epochs,
+            &mut homes,
+            &mut marks,
+            &mut ring_slots,
+            &mut ring_epochs,
+            small,
+            0,
+            Kind::Yield,
+        );
         let answer = done.answer;
-        t = done.tasks;
+        small = done.small;
         sum = sums::decided(sum, answer);
     }
     sum
@@ -106,29 +240,72 @@ pub extern "C" fn bredumalt_known_wake(start: Tasks, id: TaskId, rounds: u32) ->
 // A task is admitted, runs, ends and is collected.
 #[no_mangle]
 pub extern "C" fn bredumalt_known_admit(start: Tasks, rounds: u32) -> u64 {
-    let mut t = start;
-    if !checks::sound(t) {
+    let mut states = start.states;
+    let mut epochs = start.epochs;
+    let mut homes = start.homes;
+    let mut marks = start.marks;
+    let mut ring_slots = start.ring_slots;
+    let mut ring_epochs = start.ring_epochs;
+    let mut small = start.small;
+    if !checks::sound(start) {
         return 0;
     }
     let mut sum = 0u64;
     let mut left = rounds;
     while 0 < left {
         left = left - 1;
-        let done = moves::admit_on_in(t, 0);
+        let done = moves::admit_on_in(
+            &mut states,
+            &mut epochs,
+            &mut homes,
+            &mut marks,
+            &mut ring_slots,
+            &mut ring_epochs,
+            small,
+            0,
+        );
         let answer = done.answer;
-        t = done.tasks;
+        small = done.small;
         sum = sums::named(sum, answer);
-        let done = switch::switch_on_in(t, 0, Kind::Yield);
+        let done = switch::switch_on_in(
+            &mut states,
+            &mut epochs,
+            &mut homes,
+            &mut marks,
+            &mut ring_slots,
+            &mut ring_epochs,
+            small,
+            0,
+            Kind::Yield,
+        );
         let answer = done.answer;
-        t = done.tasks;
+        small = done.small;
         sum = sums::decided(sum, answer);
-        let done = switch::switch_on_in(t, 0, Kind::Exit);
+        let done = switch::switch_on_in(
+            &mut states,
+            &mut epochs,
+            &mut homes,
+            &mut marks,
+            &mut ring_slots,
+            &mut ring_epochs,
+            small,
+            0,
+            Kind::Exit,
+        );
         let answer = done.answer;
-        t = done.tasks;
+        small = done.small;
         sum = sums::decided(sum, answer);
-        let done = moves::collect_in(t);
+        let done = moves::collect_in(
+            &mut states,
+            &mut epochs,
+            &mut homes,
+            &mut marks,
+            &mut ring_slots,
+            &mut ring_epochs,
+            small,
+        );
         let answer = done.answer;
-        t = done.tasks;
+        small = done.small;
         sum = sums::named(sum, answer);
     }
     sum
@@ -137,21 +314,45 @@ pub extern "C" fn bredumalt_known_admit(start: Tasks, rounds: u32) -> u64 {
 // A task is stolen there and back.
 #[no_mangle]
 pub extern "C" fn bredumalt_known_steal(start: Tasks, rounds: u32) -> u64 {
-    let mut t = start;
-    if !checks::sound(t) {
+    let mut states = start.states;
+    let mut epochs = start.epochs;
+    let mut homes = start.homes;
+    let mut marks = start.marks;
+    let mut ring_slots = start.ring_slots;
+    let mut ring_epochs = start.ring_epochs;
+    let mut small = start.small;
+    if !checks::sound(start) {
         return 0;
     }
     let mut sum = 0u64;
     let mut left = rounds;
     while 0 < left {
         left = left - 1;
-        let done = steal::try_steal_into_in(t, 1);
+        let done = steal::try_steal_into_in(
+            &mut states,
+            &mut epochs,
+            &mut homes,
+            &mut marks,
+            &mut ring_slots,
+            &mut ring_epochs,
+            small,
+            1,
+        );
         let answer = done.answer;
-        t = done.tasks;
+        small = done.small;
         sum = sums::told(sum, answer);
-        let done = steal::try_steal_into_in(t, 0);
+        let done = steal::try_steal_into_in(
+            &mut states,
+            &mut epochs,
+            &mut homes,
+            &mut marks,
+            &mut ring_slots,
+            &mut ring_epochs,
+            small,
+            0,
+        );
         let answer = done.answer;
-        t = done.tasks;
+        small = done.small;
         sum = sums::told(sum, answer);
     }
     sum
@@ -165,25 +366,41 @@ pub extern "C" fn bredumalt_known_signal(
     id: TaskId,
     rounds: u32,
 ) -> u64 {
-    let mut w = start;
-    if !w.sound() {
+    let mut pending = start.pending;
+    let mut slots = start.pending_slots;
+    let mut epochs = start.pending_epochs;
+    let mut waiters = start.waiters;
+    if !start.sound() {
         return 0;
     }
     let mut sum = 0u64;
     let mut left = rounds;
     while 0 < left {
         left = left - 1;
-        let done = w.arm_in(Cookie(cookie), id);
+        let done = irqwait::arm_in(
+            &mut pending,
+            &mut slots,
+            &mut epochs,
+            waiters,
+            Cookie(cookie),
+            id,
+        );
         let answer = done.answer;
-        w = done.table;
+        waiters = done.waiters;
         sum = sums::done(sum, answer);
-        let done = w.signal_in(Cookie(cookie));
+        let done = irqwait::signal_in(
+            &mut pending,
+            &mut slots,
+            &mut epochs,
+            waiters,
+            Cookie(cookie),
+        );
         let answer = done.answer;
-        w = done.table;
+        waiters = done.waiters;
         sum = sums::named(sum, answer);
-        let done = w.take_pending_in(id);
+        let done = irqwait::take_pending_in(&mut pending, &mut slots, &mut epochs, waiters, id);
         let answer = done.answer;
-        w = done.table;
+        waiters = done.waiters;
         sum = sums::told(sum, answer);
     }
     sum
@@ -226,21 +443,22 @@ pub extern "C" fn bredumalt_known_poll(
 // A token is pushed and popped.
 #[no_mangle]
 pub extern "C" fn bredumalt_known_push(start: WakeQueue, token: u32, rounds: u32) -> u64 {
-    let mut q = start;
-    if !q.sound() {
+    let mut tokens = start.tokens;
+    let mut ends = start.ends;
+    if !start.sound() {
         return 0;
     }
     let mut sum = 0u64;
     let mut left = rounds;
     while 0 < left {
         left = left - 1;
-        let done = q.push_in(Token(token));
+        let done = wake::push_in(&mut tokens, ends, Token(token));
         let answer = done.answer;
-        q = done.queue;
+        ends = done.ends;
         sum = sums::told(sum, answer);
-        let done = q.pop_in();
+        let done = wake::pop_in(&mut tokens, ends);
         let answer = done.answer;
-        q = done.queue;
+        ends = done.ends;
         sum = sums::popped(sum, answer);
     }
     sum

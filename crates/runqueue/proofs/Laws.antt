@@ -23,19 +23,19 @@ use Rattle.runqueue.proofs.RingLaws.{around-length, around-at, around-n
 
 -- THE VIEW
 
-pub view-n : (q : RunQueue) → view q .n ≡ q .n
+pub view-n : (q : RunQueue) → view q .n ≡ q .span .n
 unfolding view
 view-n q = refl
 
-pub view-length : (q : RunQueue) → length (view q .items) ≡ q .len
+pub view-length : (q : RunQueue) → length (view q .items) ≡ q .span .len
 unfolding view
-view-length q = around-length (idAt (q .slots) (q .epochs)) (q .n) 0 (q .head) (q .len)
+view-length q = around-length (idAt (q .slots) (q .epochs)) (q .span .n) 0 (q .span .head) (q .span .len)
 
-pub view-none : (q : RunQueue) → q .len ≡ 0 → view q .items ≡ []
+pub view-none : (q : RunQueue) → q .span .len ≡ 0 → view q .items ≡ []
 unfolding view
-view-none q e = rw e (around-none (idAt (q .slots) (q .epochs)) (q .n) 0 (q .head))
+view-none q e = rw e (around-none (idAt (q .slots) (q .epochs)) (q .span .n) 0 (q .span .head))
 
-view-empty : (q : RunQueue) (n : ℕ) → q .n ≡ n → q .len ≡ 0 → view q ≡ ringOf n []
+view-empty : (q : RunQueue) (n : ℕ) → q .span .n ≡ n → q .span .len ≡ 0 → view q ≡ ringOf n []
 view-empty q n en el = ap₂ (λ a b. ringOf a b) (view-n q ∙ en) (view-none q el)
 
 -- the entry at a place counted from the head
@@ -60,12 +60,12 @@ fits-last n head len a b c =
     (λ e. record { some = a; most = b; headed = c; within = leb-true len n e })
     (λ e f. let g = leb-false len n e in omega arith)
 
-pub new-small : (n : ℕ) (q : RunQueue) → n < 1 → q .n ≡ 1 → q .head ≡ 0 → q .len ≡ 0 → Makes ring q (refused 2) (newStep n)
+pub new-small : (n : ℕ) (q : RunQueue) → n < 1 → q .span .n ≡ 1 → q .span .head ≡ 0 → q .span .len ≡ 0 → Makes ring q (refused 2) (newStep n)
 unfolding newStep
 new-small n q h en eh el =
     record { reply = rw (lt-leb 1 n h); after = rw (lt-leb 1 n h) (view-empty q 1 en el); sound = omega arith }
 
-pub new-large : (n : ℕ) (q : RunQueue) → 1 ≤ n → 64 < n → q .n ≡ 1 → q .head ≡ 0 → q .len ≡ 0 → Makes ring q (refused 2) (newStep n)
+pub new-large : (n : ℕ) (q : RunQueue) → 1 ≤ n → 64 < n → q .span .n ≡ 1 → q .span .head ≡ 0 → q .span .len ≡ 0 → Makes ring q (refused 2) (newStep n)
 unfolding newStep
 new-large n q g h en eh el =
     record {
@@ -74,7 +74,7 @@ new-large n q g h en eh el =
       sound = omega arith;
     }
 
-pub new-done : (n : ℕ) (q : RunQueue) → 1 ≤ n → n ≤ 64 → q .n ≡ n → q .head ≡ 0 → q .len ≡ 0 → Makes ring q done (newStep n)
+pub new-done : (n : ℕ) (q : RunQueue) → 1 ≤ n → n ≤ 64 → q .span .n ≡ n → q .span .head ≡ 0 → q .span .len ≡ 0 → Makes ring q done (newStep n)
 unfolding newStep
 new-done n q g h en eh el =
     record {
@@ -86,87 +86,87 @@ new-done n q g h en eh el =
 -- READING
 
 module _ (q : RunQueue) (s : Sound q) where
-  pub capacity-is : Answers ring q (number (q .n)) (capacityReply (view q))
+  pub capacity-is : Answers ring q (number (q .span .n)) (capacityReply (view q))
   capacity-is = answers ring q _ _ s (λ e. let z : _≡_ {A = ℕ} 0 1 = cc in omega arith) (ap number (sym (view-n q)))
 
-  pub len-is : Answers ring q (number (q .len)) (lenReply (view q))
+  pub len-is : Answers ring q (number (q .span .len)) (lenReply (view q))
   len-is = answers ring q _ _ s (λ e. let z : _≡_ {A = ℕ} 0 1 = cc in omega arith) (ap number (sym (view-length q)))
 
-  pub empty-is : Answers ring q (told (eqb (q .len) 0)) (emptyReply (view q))
+  pub empty-is : Answers ring q (told (eqb (q .span .len) 0)) (emptyReply (view q))
   empty-is = answers ring q _ _ s (λ e. let z : _≡_ {A = ℕ} 0 1 = cc in omega arith) (ap (λ k. told (eqb k 0)) (sym (view-length q)))
 
-  pub full-is : Answers ring q (told (eqb (q .len) (q .n))) (fullReply (view q))
+  pub full-is : Answers ring q (told (eqb (q .span .len) (q .span .n))) (fullReply (view q))
   full-is =
       answers ring q _ _ s (λ e. let z : _≡_ {A = ℕ} 0 1 = cc in omega arith)
       (ap₂ (λ a b. told (eqb a b)) (sym (view-length q)) (sym (view-n q)))
 
-  pub ready-past : (i : ℕ) → q .len ≤ i → Answers ring q (named none) (readyAtReply (view q) i)
+  pub ready-past : (i : ℕ) → q .span .len ≤ i → Answers ring q (named none) (readyAtReply (view q) i)
   ready-past i h =
       answers ring q _ _ s (λ e. let z : _≡_ {A = ℕ} 0 1 = cc in omega arith)
       (ap named (sym (getElem-past (view q .items) i (omega (arith, view-length q)))))
 
-  pub ready-is : (i at : ℕ) → i < q .len → at ≡ placed (q .n) (q .head + i) → Answers ring q (named (some (idAt (q .slots) (q .epochs) at))) (readyAtReply (view q) i)
+  pub ready-is : (i at : ℕ) → i < q .span .len → at ≡ placed (q .span .n) (q .span .head + i) → Answers ring q (named (some (idAt (q .slots) (q .epochs) at))) (readyAtReply (view q) i)
   unfolding view
   ready-is i at h e =
       answers ring q _ _ s (λ e. let z : _≡_ {A = ℕ} 0 1 = cc in omega arith)
       (ap (λ x. named (some x))
       (ap (idAt (q .slots) (q .epochs)) (omega arith)
-      ∙ sym (around-at (idAt (q .slots) (q .epochs)) (q .n) 0 (q .head) (q .len) i idle h))
+      ∙ sym (around-at (idAt (q .slots) (q .epochs)) (q .span .n) 0 (q .span .head) (q .span .len) i idle h))
       ∙ ap named (sym (getElem-at (view q .items) i idle (omega (arith, view-length q)))))
 
 -- CHANGING
 
 -- an id stored at an index, and a new length
 abbrev pub put : RunQueue → TaskId → ℕ → ℕ → RunQueue
-put q id at l = record { n = q .n; head = q .head; len = l; slots = set (q .slots) at (id .slot); epochs = set (q .epochs) at (id .epoch) }
+put q id at l = record { span = record { n = q .span .n; head = q .span .head; len = l }; slots = set (q .slots) at (id .slot); epochs = set (q .epochs) at (id .epoch) }
 
 -- a new head and a new length
 abbrev pub cut : RunQueue → ℕ → ℕ → RunQueue
-cut q h l = record { n = q .n; head = h; len = l; slots = q .slots; epochs = q .epochs }
+cut q h l = record { span = record { n = q .span .n; head = h; len = l }; slots = q .slots; epochs = q .epochs }
 
 module _ (q : RunQueue) (s : Sound q) where
-  pub enqueue-full : (id : TaskId) → q .n ≤ q .len → Does ring q q (refused 11) (enqueueStep (view q) id)
+  pub enqueue-full : (id : TaskId) → q .span .n ≤ q .span .len → Does ring q q (refused 11) (enqueueStep (view q) id)
   unfolding enqueueStep
   enqueue-full id h =
       let f = le-ltb (length (view q .items)) (view q .n) (omega (arith, view-length q, view-n q)) in
       does-keep ring q _ _ s (λ e. let z : _≡_ {A = ℕ} 11 1 = cc in omega arith) (rw f) (rw f)
 
-  pub view-put : (id : TaskId) (at l : ℕ) → length (q .slots) ≡ 64 → length (q .epochs) ≡ 64 → q .len < q .n → at ≡ placed (q .n) (q .head + q .len) → l ≡ q .len + 1
+  pub view-put : (id : TaskId) (at l : ℕ) → length (q .slots) ≡ 64 → length (q .epochs) ≡ 64 → q .span .len < q .span .n → at ≡ placed (q .span .n) (q .span .head + q .span .len) → l ≡ q .span .len + 1
       → view (put q id at l) ≡ ringOf (view q .n) (view q .items ++ (id ∷ []))
   unfolding view
   view-put id at l ls le h p e =
-      ap (λ k. ringOf (q .n) (queueAt (set (q .slots) at (id .slot)) (set (q .epochs) at (id .epoch)) (q .n) 0 (q .head) k)) e
-      ∙ ap (λ k. ringOf (q .n) k)
-      (queue-push (q .slots) (q .epochs) (q .n) 0 (q .head) (q .len) at id (s .headed) h (omega arith) (omega arith) (omega arith))
+      ap (λ k. ringOf (q .span .n) (queueAt (set (q .slots) at (id .slot)) (set (q .epochs) at (id .epoch)) (q .span .n) 0 (q .span .head) k)) e
+      ∙ ap (λ k. ringOf (q .span .n) k)
+      (queue-push (q .slots) (q .epochs) (q .span .n) 0 (q .span .head) (q .span .len) at id (s .headed) h (omega arith) (omega arith) (omega arith))
 
-  pub enqueue-done : (id : TaskId) (at l : ℕ) → length (q .slots) ≡ 64 → length (q .epochs) ≡ 64 → q .len < q .n → at ≡ placed (q .n) (q .head + q .len) → l ≡ q .len + 1
+  pub enqueue-done : (id : TaskId) (at l : ℕ) → length (q .slots) ≡ 64 → length (q .epochs) ≡ 64 → q .span .len < q .span .n → at ≡ placed (q .span .n) (q .span .head + q .span .len) → l ≡ q .span .len + 1
       → Does ring q (put q id at l) done (enqueueStep (view q) id)
   unfolding enqueueStep
   enqueue-done id at l ls le h p e =
       let f = lt-ltb (length (view q .items)) (view q .n) (omega (arith, view-length q, view-n q)) in
       does ring q (put q id at l) _ _ (λ r. r) (rw f) (rw f (view-put id at l ls le h p e)) (omega arith)
 
-  pub dequeue-none : q .len ≡ 0 → Does ring q q (named none) (dequeueStep (view q))
+  pub dequeue-none : q .span .len ≡ 0 → Does ring q q (named none) (dequeueStep (view q))
   unfolding dequeueOf
   dequeue-none e =
       let f = view-none q e in
       does-keep ring q _ _ s (λ e. let z : _≡_ {A = ℕ} 0 1 = cc in omega arith) (rw f) (view-empty q (view q .n) (sym (view-n q)) e ∙ sym (ap (λ l. dequeueOf (view q .n) l .after) f))
 
-  pub view-split : (h l : ℕ) → (q .len ≡ 0 → ⊥) → h ≡ placed (q .n) (q .head + 1) → l ≡ q .len - 1
-      → view q .items ≡ idAt (q .slots) (q .epochs) (q .head) ∷ view (cut q h l) .items
+  pub view-split : (h l : ℕ) → (q .span .len ≡ 0 → ⊥) → h ≡ placed (q .span .n) (q .span .head + 1) → l ≡ q .span .len - 1
+      → view q .items ≡ idAt (q .slots) (q .epochs) (q .span .head) ∷ view (cut q h l) .items
   unfolding view
   view-split h l more e f =
       let at = idAt (q .slots) (q .epochs) in
-      ap (λ k. around at (q .n) 0 (q .head) k) (omega arith)
-      ∙ around-pop at (q .n) 0 (q .head) l (s .headed)
-      ∙ ap₂ (λ a k. at a ∷ around at (q .n) 0 k l) (omega arith) (sym e)
+      ap (λ k. around at (q .span .n) 0 (q .span .head) k) (omega arith)
+      ∙ around-pop at (q .span .n) 0 (q .span .head) l (s .headed)
+      ∙ ap₂ (λ a k. at a ∷ around at (q .span .n) 0 k l) (omega arith) (sym e)
 
-  pub dequeue-done : (h l : ℕ) → (q .len ≡ 0 → ⊥) → h ≡ placed (q .n) (q .head + 1) → l ≡ q .len - 1
-      → Does ring q (cut q h l) (named (some (idAt (q .slots) (q .epochs) (q .head)))) (dequeueStep (view q))
+  pub dequeue-done : (h l : ℕ) → (q .span .len ≡ 0 → ⊥) → h ≡ placed (q .span .n) (q .span .head + 1) → l ≡ q .span .len - 1
+      → Does ring q (cut q h l) (named (some (idAt (q .slots) (q .epochs) (q .span .head)))) (dequeueStep (view q))
   unfolding dequeueOf
   dequeue-done h l more e f =
       let v = view-split h l more e f in
-      let low = placed-lt (q .n) (q .head + 1) (s .some) in
+      let low = placed-lt (q .span .n) (q .span .head + 1) (s .some) in
       let u = cut q h l in
       does ring q u _ _ (λ r. r) (rw v)
       (ap (λ k. ringOf k (view u .items)) (view-n u ∙ sym (view-n q)) ∙ sym (ap (λ k. dequeueOf (view q .n) k .after) v))

@@ -1,5 +1,5 @@
 -- What a store, a head that moves and a length that changes do to what a ring holds. Every ring shares these laws: the
--- ring by value, the rings of a task table and the wake queue.
+-- ring alone, the rings of a task table and the wake queue.
 use mathlib.Core.Path.{_≡_, refl, sym, _∙_, ap, ap₂}
 use mathlib.Core.List.{List, [], _∷_, _++_}
 use Prim.Native.Nat.{ℕ, suc, _+_, _≤_, _<_}

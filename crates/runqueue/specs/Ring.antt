@@ -34,7 +34,7 @@ pub record Ring : Type 0 where
   pub items : List TaskId
 
 unfoldable pub view : RunQueue → Ring
-view q = record { n = q .n; items = queueAt (q .slots) (q .epochs) (q .n) 0 (q .head) (q .len) }
+view q = record { n = q .span .n; items = queueAt (q .slots) (q .epochs) (q .span .n) 0 (q .span .head) (q .span .len) }
 
 -- Document 01, "A ring handed in alone": N listed, head below N, length at most N
 pub record Fit (n head len : ℕ) : Type 0 where
@@ -44,7 +44,7 @@ pub record Fit (n head len : ℕ) : Type 0 where
   pub within : len ≤ n
 
 abbrev pub Sound : RunQueue → Type 0
-Sound q = Fit (q .n) (q .head) (q .len)
+Sound q = Fit (q .span .n) (q .span .head) (q .span .len)
 
 abbrev pub ring : Kind
 ring = record { Memory = RunQueue; Plain = Ring; Sound = Sound; view = view }

@@ -4,3 +4,4 @@ pub mod Projects
 pub mod SheetRows
 pub mod ShutOut
 pub mod Coincidence
+pub mod Tied

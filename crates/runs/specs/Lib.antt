@@ -1,3 +1,5 @@
 pub mod Tables
+pub mod Numbering
 pub mod Outcomes
 pub mod Sheet
+pub mod Tied

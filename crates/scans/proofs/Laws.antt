@@ -15,6 +15,8 @@ use Rattle.lists.specs.Tab.{tab}
 use Rattle.lists.specs.Search.{countOf}
 use Rattle.lists.proofs.TabLaws.{length-tab, getD-tab}
 use Rattle.lists.proofs.SearchLaws.{Passed, passed-none, passed-more, passed-hit, passed-all, Counting, counting-none, counting-hit, counting-pass, counting-all, any-hit, any-none}
+use Rattle.lists.specs.Flags.{isSet}
+use Rattle.lists.proofs.FlagLaws.{set-off, set-on}
 use Rattle.lists.proofs.Basics.{below-next, both-true, lt-or-ge}
 use Rattle.ids.specs.declared.TaskId.{TaskId}
 use Rattle.ids.specs.Id.{sameId, idle}
@@ -32,18 +34,18 @@ known-near epochs n id h = rw (lt-ltb (id .slot) n h)
 
 -- STEALEABLE
 
-module _ (epochs : List ℕ) (marks : List Bool) (n : ℕ) (idles : List TaskId) (id : TaskId) where
+module _ (epochs marks : List ℕ) (n : ℕ) (idles : List TaskId) (id : TaskId) where
   pub loot-unknown : knownIn epochs n id ≡ false → false ≡ stealeableIn epochs marks n idles id
   loot-unknown h = rw h
 
   pub known-slot : knownIn epochs n id ≡ true → id .slot < n
   known-slot h = ltb-true (id .slot) n (both-true (ltb (id .slot) n) (eqb (getD epochs (id .slot) 0) (id .epoch)) h .0)
 
-  pub loot-unmarked : knownIn epochs n id ≡ true → getD marks (id .slot) false ≡ false → false ≡ stealeableIn epochs marks n idles id
-  loot-unmarked h m = rw (h, m)
+  pub loot-unmarked : knownIn epochs n id ≡ true → getD marks (id .slot) 0 ≡ 0 → false ≡ stealeableIn epochs marks n idles id
+  loot-unmarked h m = rw (h, set-off (getD marks (id .slot) 0) m)
 
-  pub loot-is : (r : Bool) → knownIn epochs n id ≡ true → getD marks (id .slot) false ≡ true → r ≡ idleIn idles id → not r ≡ stealeableIn epochs marks n idles id
-  loot-is r h m e = rw (h, m, e)
+  pub loot-is : (r : Bool) → knownIn epochs n id ≡ true → (getD marks (id .slot) 0 ≡ 0 → ⊥) → r ≡ idleIn idles id → not r ≡ stealeableIn epochs marks n idles id
+  loot-is r h m e = rw (h, set-on (getD marks (id .slot) 0) m, e)
 
 -- IDLE
 
@@ -94,7 +96,7 @@ module _ (states : List ℕ) (from : ℕ) where
 
 -- FREE SLOTS
 
-module _ (states : List ℕ) (parked : Bool) (at n : ℕ) where
+module _ (states : List ℕ) (parked at n : ℕ) where
   -- none of the first s slots is free
   Taken : ℕ → Type 0
   Taken s = Passed (vacantIn states parked at) (tab n (λ s. s)) s
@@ -127,18 +129,18 @@ module _ (states : List ℕ) (parked : Bool) (at n : ℕ) where
     vacant-not : (getD states s 0 ≡ 0 → ⊥) → vacantIn states parked at s ≡ false
     vacant-not h = rw (ne-eqb (getD states s 0) 0 h)
 
-    vacant-free : getD states s 0 ≡ 0 → parked ≡ false → vacantIn states parked at s ≡ true
-    vacant-free h f = rw (eq-eqb (getD states s 0) 0 h, f)
+    vacant-free : getD states s 0 ≡ 0 → parked ≡ 0 → vacantIn states parked at s ≡ true
+    vacant-free h f = rw (eq-eqb (getD states s 0) 0 h, set-off parked f)
 
     vacant-other : getD states s 0 ≡ 0 → (at ≡ s → ⊥) → vacantIn states parked at s ≡ true
-    vacant-other h f = rw (eq-eqb (getD states s 0) 0 h, ne-eqb at s f) (go parked)
+    vacant-other h f = rw (eq-eqb (getD states s 0) 0 h, ne-eqb at s f) (go (isSet parked))
       where
         go : (b : Bool) → not (b && false) ≡ true
         go true = refl
         go false = refl
 
-    vacant-parked : getD states s 0 ≡ 0 → parked ≡ true → at ≡ s → vacantIn states parked at s ≡ false
-    vacant-parked h f e = rw (eq-eqb (getD states s 0) 0 h, f, eq-eqb at s e)
+    vacant-parked : getD states s 0 ≡ 0 → (parked ≡ 0 → ⊥) → at ≡ s → vacantIn states parked at s ≡ false
+    vacant-parked h f e = rw (eq-eqb (getD states s 0) 0 h, set-on parked f, eq-eqb at s e)
 
   -- no Empty slot lies between a slot up to which none is free and r
   taken-run : (from k : ℕ) → Taken from → from + k ≤ n → ((i : ℕ) → from ≤ i → i < from + k → getD states i 0 ≡ EMPTY → ⊥) → Taken (from + k)
@@ -159,14 +161,14 @@ module _ (states : List ℕ) (parked : Bool) (at n : ℕ) where
     free-past h = free-none s taken h
 
     module _ (h : s < n) where
-      pub free-unparked : parked ≡ false → s ≡ freeIn states parked at n
+      pub free-unparked : parked ≡ 0 → s ≡ freeIn states parked at n
       free-unparked f = free-is s taken h (vacant-free s (e .there h) f)
 
       pub free-other : (at ≡ s → ⊥) → s ≡ freeIn states parked at n
       free-other f = free-is s taken h (vacant-other s (e .there h) f)
 
       -- where it is the parked one, the next
-      pub free-behind : (r : ℕ) → parked ≡ true → at ≡ s → LowestEmpty states (s + 1) n r → r ≡ freeIn states parked at n
+      pub free-behind : (r : ℕ) → (parked ≡ 0 → ⊥) → at ≡ s → LowestEmpty states (s + 1) n r → r ≡ freeIn states parked at n
       free-behind r f q d =
           let all = taken-to (s + 1) r (taken-more s taken h (vacant-parked s (e .there h) f q)) d in
           ⊎-elim (λ (l : r < n). free-is r all l (vacant-other r (d .there l) (λ o. absurd (omega (arith, d .least))))) (λ (l : n ≤ r). free-none r all l) (lt-or-ge r n)

@@ -36,7 +36,7 @@ pub fn is_idle(idles: [TaskId; 2], id: TaskId) -> bool
 // Whether another CPU may have the task: known, marked, and no idle.
 pub fn stealeable<'a>(
     epochs: &'a [u16; 64],
-    marks: &'a [bool; 64],
+    marks: &'a [u8; 64],
     n: usize,
     idles: [TaskId; 2],
     id: TaskId,
@@ -48,7 +48,7 @@ pub fn stealeable<'a>(
         return false;
     }
     let s = id.slot as usize;
-    if !marks[s] {
+    if marks[s] == 0 {
         return false;
     }
     !is_idle(idles, id)
@@ -72,7 +72,7 @@ fn empty_from<'a>(states: &'a [u8; 64], n: usize, from: usize) -> usize
 
 // The lowest slot that is Empty and not the parked one, or n. The loop does not ask about the parked one: only if that is
 // the lowest does it go on behind it.
-pub fn free_slot<'a>(states: &'a [u8; 64], n: usize, parked: bool, at: usize) -> usize
+pub fn free_slot<'a>(states: &'a [u8; 64], n: usize, parked: u8, at: usize) -> usize
     requires { ⌜ n ≤ 64 ⌝ }
     ensures { λ r. ⌜ (r ≡ freeIn (now (states .entry)) parked at n) × (r ≤ n) ⌝ }
 {
@@ -80,7 +80,7 @@ pub fn free_slot<'a>(states: &'a [u8; 64], n: usize, parked: bool, at: usize) ->
     if n <= s {
         return s;
     }
-    if !parked {
+    if parked == 0 {
         return s;
     }
     if at != s {

@@ -1,6 +1,6 @@
 // A script, run: lines are read, played on the four tables and answered into a lent buffer, as many as it has room for. The
-// tables are four locals and each kind of line has its inner call here, so that a line copies the one table that it touches,
-// and that no more often than its call does.
+// tables are taken apart: their arrays are locals that each kind of line lends to its inner call, so that no line copies them.
+// Waiters and deadlines, which are few, go in and come back by value.
 ghost use Prim.Native.Nat.{_≤_};
 ghost use lib.ListN.{length};
 ghost use Rattle.runs.specs.Outcomes.{AllSound};
@@ -36,21 +36,26 @@ pub fn chunk(input: &[u8], start: Place, out: &mut [u8]) -> Place
     let mut at = start.at;
     let mut number = start.number;
     let mut used = 0;
-    let mut tasks = start.tasks;
-    let mut waits = start.waits;
+    let tasks = start.tasks;
+    let mut small = tasks.small;
+    let mut states = tasks.states;
+    let mut epochs = tasks.epochs;
+    let mut homes = tasks.homes;
+    let mut marks = tasks.marks;
+    let mut ring_slots = tasks.ring_slots;
+    let mut ring_epochs = tasks.ring_epochs;
+    let waits = start.waits;
+    let mut waiters = waits.waiters;
+    let mut pending = waits.pending;
+    let mut pending_slots = waits.pending_slots;
+    let mut pending_epochs = waits.pending_epochs;
     let mut deadlines = start.deadlines;
-    let mut wakes = start.wakes;
+    let wakes = start.wakes;
+    let mut ends = wakes.ends;
+    let mut tokens = wakes.tokens;
     while at < input.len() {
         if out.len() - used < ROOM {
-            return Place {
-                at: at,
-                number: number,
-                used: used,
-                tasks: tasks,
-                waits: waits,
-                deadlines: deadlines,
-                wakes: wakes,
-            };
+            break;
         }
         let ahead = place::next_line(input, at);
         let line = ahead.line;
@@ -62,11 +67,24 @@ pub fn chunk(input: &[u8], start: Place, out: &mut [u8]) -> Place
                 let answer = made.answer;
                 match answer {
                     Ack::Done => {
-                        tasks = made.tasks;
-                        waits = WaitTable::new();
+                        let tasks = made.tasks;
+                        small = tasks.small;
+                        states = tasks.states;
+                        epochs = tasks.epochs;
+                        homes = tasks.homes;
+                        marks = tasks.marks;
+                        ring_slots = tasks.ring_slots;
+                        ring_epochs = tasks.ring_epochs;
+                        let waits = WaitTable::new();
+                        waiters = waits.waiters;
+                        pending = waits.pending;
+                        pending_slots = waits.pending_slots;
+                        pending_epochs = waits.pending_epochs;
                         deadlines = Table::new();
                         let queue = WakeQueue::new(32);
-                        wakes = queue.queue;
+                        let wakes = queue.queue;
+                        ends = wakes.ends;
+                        tokens = wakes.tokens;
                         used = print::line(out, used, number, Answer::Ack(Ack::Done));
                         continue;
                     }
@@ -79,58 +97,130 @@ pub fn chunk(input: &[u8], start: Place, out: &mut [u8]) -> Place
             Line::Tasks(call) => {
                 match call {
                     TaskCall::Start => {
-                        let done = moves::start_in(tasks);
+                        let done = moves::start_in(
+                            &mut states,
+                            &mut epochs,
+                            &mut homes,
+                            &mut marks,
+                            &mut ring_slots,
+                            &mut ring_epochs,
+                            small,
+                        );
                         let answer = done.answer;
-                        tasks = done.tasks;
+                        small = done.small;
                         used = print::line(out, used, number, Answer::Ack(answer));
                         continue;
                     }
                     TaskCall::Start1 => {
-                        let done = moves::start_cpu_in(tasks, 1);
+                        let done = moves::start_cpu_in(
+                            &mut states,
+                            &mut epochs,
+                            &mut homes,
+                            &mut marks,
+                            &mut ring_slots,
+                            &mut ring_epochs,
+                            small,
+                            1,
+                        );
                         let answer = done.answer;
-                        tasks = done.tasks;
+                        small = done.small;
                         used = print::line(out, used, number, Answer::Named(answer));
                         continue;
                     }
                     TaskCall::Admit(cpu) => {
-                        let done = moves::admit_on_in(tasks, cpu);
+                        let done = moves::admit_on_in(
+                            &mut states,
+                            &mut epochs,
+                            &mut homes,
+                            &mut marks,
+                            &mut ring_slots,
+                            &mut ring_epochs,
+                            small,
+                            cpu,
+                        );
                         let answer = done.answer;
-                        tasks = done.tasks;
+                        small = done.small;
                         used = print::line(out, used, number, Answer::Named(answer));
                         continue;
                     }
                     TaskCall::Switch(cpu, kind) => {
-                        let done = switch::switch_on_in(tasks, cpu, kind);
+                        let done = switch::switch_on_in(
+                            &mut states,
+                            &mut epochs,
+                            &mut homes,
+                            &mut marks,
+                            &mut ring_slots,
+                            &mut ring_epochs,
+                            small,
+                            cpu,
+                            kind,
+                        );
                         let answer = done.answer;
-                        tasks = done.tasks;
+                        small = done.small;
                         used = print::line(out, used, number, Answer::Decision(answer));
                         continue;
                     }
                     TaskCall::Mark(id, mark) => {
-                        let done = moves::set_stealeable_in(tasks, id, mark);
+                        let done = moves::set_stealeable_in(
+                            &mut states,
+                            &mut epochs,
+                            &mut homes,
+                            &mut marks,
+                            &mut ring_slots,
+                            &mut ring_epochs,
+                            small,
+                            id,
+                            mark,
+                        );
                         let answer = done.answer;
-                        tasks = done.tasks;
+                        small = done.small;
                         used = print::line(out, used, number, Answer::Told(answer));
                         continue;
                     }
                     TaskCall::Steal(cpu) => {
-                        let done = steal::try_steal_into_in(tasks, cpu);
+                        let done = steal::try_steal_into_in(
+                            &mut states,
+                            &mut epochs,
+                            &mut homes,
+                            &mut marks,
+                            &mut ring_slots,
+                            &mut ring_epochs,
+                            small,
+                            cpu,
+                        );
                         let answer = done.answer;
-                        tasks = done.tasks;
+                        small = done.small;
                         used = print::line(out, used, number, Answer::Told(answer));
                         continue;
                     }
                     TaskCall::Wake(id) => {
-                        let done = moves::wake_in(tasks, id);
+                        let done = moves::wake_in(
+                            &mut states,
+                            &mut epochs,
+                            &mut homes,
+                            &mut marks,
+                            &mut ring_slots,
+                            &mut ring_epochs,
+                            small,
+                            id,
+                        );
                         let answer = done.answer;
-                        tasks = done.tasks;
+                        small = done.small;
                         used = print::line(out, used, number, Answer::Told(answer));
                         continue;
                     }
                     TaskCall::Collect => {
-                        let done = moves::collect_in(tasks);
+                        let done = moves::collect_in(
+                            &mut states,
+                            &mut epochs,
+                            &mut homes,
+                            &mut marks,
+                            &mut ring_slots,
+                            &mut ring_epochs,
+                            small,
+                        );
                         let answer = done.answer;
-                        tasks = done.tasks;
+                        small = done.small;
                         used = print::line(out, used, number, Answer::Named(answer));
                         continue;
                     }
@@ -139,30 +229,55 @@ pub fn chunk(input: &[u8], start: Place, out: &mut [u8]) -> Place
             Line::Waits(call) => {
                 match call {
                     WaitCall::Arm(cookie, id) => {
-                        let done = waits.arm_in(cookie, id);
+                        let done = irqwait::arm_in(
+                            &mut pending,
+                            &mut pending_slots,
+                            &mut pending_epochs,
+                            waiters,
+                            cookie,
+                            id,
+                        );
                         let answer = done.answer;
-                        waits = done.table;
+                        waiters = done.waiters;
                         used = print::line(out, used, number, Answer::Ack(answer));
                         continue;
                     }
                     WaitCall::Disarm(id) => {
-                        let done = waits.disarm_task_in(id);
+                        let done = irqwait::disarm_task_in(
+                            &mut pending,
+                            &mut pending_slots,
+                            &mut pending_epochs,
+                            waiters,
+                            id,
+                        );
                         let answer = done.answer;
-                        waits = done.table;
+                        waiters = done.waiters;
                         used = print::line(out, used, number, Answer::Ack(answer));
                         continue;
                     }
                     WaitCall::Signal(cookie) => {
-                        let done = waits.signal_in(cookie);
+                        let done = irqwait::signal_in(
+                            &mut pending,
+                            &mut pending_slots,
+                            &mut pending_epochs,
+                            waiters,
+                            cookie,
+                        );
                         let answer = done.answer;
-                        waits = done.table;
+                        waiters = done.waiters;
                         used = print::line(out, used, number, Answer::Named(answer));
                         continue;
                     }
                     WaitCall::Take(id) => {
-                        let done = waits.take_pending_in(id);
+                        let done = irqwait::take_pending_in(
+                            &mut pending,
+                            &mut pending_slots,
+                            &mut pending_epochs,
+                            waiters,
+                            id,
+                        );
                         let answer = done.answer;
-                        waits = done.table;
+                        waiters = done.waiters;
                         used = print::line(out, used, number, Answer::Told(answer));
                         continue;
                     }
@@ -197,16 +312,16 @@ pub fn chunk(input: &[u8], start: Place, out: &mut [u8]) -> Place
             Line::Wakes(call) => {
                 match call {
                     WakeCall::Push(token) => {
-                        let done = wakes.push_in(token);
+                        let done = wake::push_in(&mut tokens, ends, token);
                         let answer = done.answer;
-                        wakes = done.queue;
+                        ends = done.ends;
                         used = print::line(out, used, number, Answer::Told(answer));
                         continue;
                     }
                     WakeCall::Pop => {
-                        let done = wakes.pop_in();
+                        let done = wake::pop_in(&mut tokens, ends);
                         let answer = done.answer;
-                        wakes = done.queue;
+                        ends = done.ends;
                         used = print::line(out, used, number, Answer::Popped(answer));
                         continue;
                     }
@@ -227,9 +342,25 @@ pub fn chunk(input: &[u8], start: Place, out: &mut [u8]) -> Place
         at: at,
         number: number,
         used: used,
-        tasks: tasks,
-        waits: waits,
+        tasks: Tasks {
+            small: small,
+            states: states,
+            epochs: epochs,
+            homes: homes,
+            marks: marks,
+            ring_slots: ring_slots,
+            ring_epochs: ring_epochs,
+        },
+        waits: WaitTable {
+            waiters: waiters,
+            pending: pending,
+            pending_slots: pending_slots,
+            pending_epochs: pending_epochs,
+        },
         deadlines: deadlines,
-        wakes: wakes,
+        wakes: WakeQueue {
+            ends: ends,
+            tokens: tokens,
+        },
     }
 }

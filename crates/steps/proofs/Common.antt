@@ -50,11 +50,11 @@ module _ (t : Tasks) (w : Sound t) where
   pub lives : started (view t) ≡ true → plain.Live (view t)
   lives h = live (view t) (w .model) h
 
-  pub blank : getD (t .states) 0 0 ≡ 0 → view t ≡ fresh (t .n)
+  pub blank : getD (t .states) 0 0 ≡ 0 → view t ≡ fresh (t .small .n)
   blank h = unstarted (view t) (w .model) (is-off h) ∙ ap fresh (view-n t)
 
   -- room for one more in any queue
-  pub has-room : started (view t) ≡ true → (c : ℕ) → c < CPUS → lenOf t c < t .n
+  pub has-room : started (view t) ≡ true → (c : ℕ) → c < CPUS → lenOf t c < t .small .n
   has-room h c hc = omega (arith, room (view t) (w .model .shape) (lives h) c hc, view-len t c hc, view-n t)
 
   -- handed back with an answer

@@ -59,7 +59,7 @@ module _ (t : Tasks) (c p : ℕ) (w : Sound t) (on : started (view t) ≡ true) 
   peer-is : peerOf (view t) c ≡ p
   peer-is = ap (λ k. (c + 1) % k) (view-ncpus t) ∙ sym ep
 
-  pub same-n : u .n ≡ t .n
+  pub same-n : u .small .n ≡ t .small .n
   same-n = sym (view-n u) ∙ ap (λ (k : Model). k .n) (s .after) ∙ view-n t
 
   -- the lengths of the two queues
@@ -103,7 +103,7 @@ module _ (t : Tasks) (c p : ℕ) (w : Sound t) (on : started (view t) ≡ true) 
     abbrev x : TaskId
     x = getD (queueOf (view t) p) j idle
 
-    pub x-slot : getD (queueOf (view t) p) j idle .slot < t .n
+    pub x-slot : getD (queueOf (view t) p) j idle .slot < t .small .n
     x-slot = omega (arith, queue-known (view t) (lives t w on) p j peer-in inside .slot, view-n t)
 
     split : headIn u p ∷ restIn u p ≡ getD (queueOf (view t) p) j idle ∷ robbed j (queueOf (view t) p)
@@ -119,10 +119,10 @@ module _ (t : Tasks) (c p : ℕ) (w : Sound t) (on : started (view t) ≡ true) 
     rest-is : restIn u p ≡ robbed j (queueOf (view t) p)
     rest-is = let e = split in cc
 
-    pub pull-entry : (from : ℕ) → from ≡ p * SPAN + placed (u .n) (headOf u p) → ringIn u from ≡ getD (queueOf (view t) p) j idle
-    pull-entry from e = ap (ringIn u) (e ∙ ap (λ h. p * SPAN + h) (placed-low (u .n) (headOf u p) (s .rep .rings p peer-in .head))) ∙ head-is
+    pub pull-entry : (from : ℕ) → from ≡ p * SPAN + placed (u .small .n) (headOf u p) → ringIn u from ≡ getD (queueOf (view t) p) j idle
+    pull-entry from e = ap (ringIn u) (e ∙ ap (λ h. p * SPAN + h) (placed-low (u .small .n) (headOf u p) (s .rep .rings p peer-in .head))) ∙ head-is
 
-    pub pull-done : (id : TaskId) (from to h l d one : ℕ) → from ≡ p * SPAN + placed (u .n) (headOf u p) → to ≡ c * SPAN + placed (u .n) (headOf u c) → h ≡ placed (u .n) (headOf u p + 1) → l ≡ lenOf u p - 1 → d ≡ c → one ≡ 1 → id ≡ ringIn u from
+    pub pull-done : (id : TaskId) (from to h l d one : ℕ) → from ≡ p * SPAN + placed (u .small .n) (headOf u p) → to ≡ c * SPAN + placed (u .small .n) (headOf u c) → h ≡ placed (u .small .n) (headOf u p + 1) → l ≡ lenOf u p - 1 → d ≡ c → one ≡ 1 → id ≡ ringIn u from
         → Pulls t c (putTail (putHome (putHead u p h l) (id .slot) d) c to one id) true
     unfolding stealing stolen
     pull-done id from to h l d one ef et eh el ed eo ei =
@@ -131,16 +131,16 @@ module _ (t : Tasks) (c p : ℕ) (w : Sound t) (on : started (view t) ≡ true) 
         let b = putHome a (id .slot) d in
         let ra = rep-head u p h l (s .rep) peer-in eh el in
         let rb = rep-home a (id .slot) ra d in
-        let lc : lenOf b c ≡ 0 = getD-set-other (u .lens) p c l 0 apart ∙ thief-len in
-        let hd : headOf b c ≡ headOf u c = getD-set-other (u .heads) p c h 0 apart in
-        let free : lenOf b c < b .n = omega (arith, s .rep .some) in
-        let pt : to ≡ c * SPAN + placed (b .n) (headOf b c + lenOf b c) = et ∙ ap (λ k. c * SPAN + placed (u .n) k) (sym (add-zero (headOf u c)) ∙ ap₂ (λ a b. a + b) (sym hd) (sym lc)) in
+        let lc : lenOf b c ≡ 0 = getD-set-other (u .small .lens) p c l 0 apart ∙ thief-len in
+        let hd : headOf b c ≡ headOf u c = getD-set-other (u .small .heads) p c h 0 apart in
+        let free : lenOf b c < b .small .n = omega (arith, s .rep .some) in
+        let pt : to ≡ c * SPAN + placed (b .small .n) (headOf b c + lenOf b c) = et ∙ ap (λ k. c * SPAN + placed (u .small .n) k) (sym (add-zero (headOf u c)) ∙ ap₂ (λ a b. a + b) (sym hd) (sym lc)) in
         let po : one ≡ lenOf b c + 1 = omega arith in
         let va : view a ≡ withQueue (view t) p (robbed j (queueOf (view t) p)) =
         store-head u p h l (s .rep) peer-in eh el
         ∙ ap₂ (λ k r. withQueue k p r) (s .after) rest-is
         ∙ withQueue-twice (view t) p (turned j (queueOf (view t) p)) (robbed j (queueOf (view t) p)) in-cpus in
-        let near : id .slot < a .n = omega (arith, x-slot, same-n, ap (λ (k : TaskId). k .slot) name) in
+        let near : id .slot < a .small .n = omega (arith, x-slot, same-n, ap (λ (k : TaskId). k .slot) name) in
         let vb : view b ≡ withHome (withQueue (view t) p (robbed j (queueOf (view t) p))) (id .slot) d = store-home a (id .slot) near d ∙ ap (λ k. withHome k (id .slot) d) va in
         let z : canSteal (view t) c ≡ true = can ∙ lt-ltb (lootAt (view t) (queueOf (view t) p)) (length (queueOf (view t) p)) (omega (arith, s .place, inside)) in
         record {

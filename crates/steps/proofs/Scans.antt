@@ -37,13 +37,13 @@ turned-all q j h = rw (drop-of-length-le q h, take-all j q h)
 
 -- the scan has passed the first j entries of CPU p's queue
 pub record Turning (t : Tasks) (p : ℕ) (u : Tasks) (head j : ℕ) : Type 0 where
-  pub same : u ≡ putRings t (u .«ring_slots») (u .«ring_epochs») (t .heads) (t .lens)
+  pub same : u ≡ putRings t (u .«ring_slots») (u .«ring_epochs») (t .small .heads) (t .small .lens)
   pub slots : length (u .«ring_slots») ≡ CPUS * SPAN
   pub tenures : length (u .«ring_epochs») ≡ CPUS * SPAN
-  pub headed : head < t .n
+  pub headed : head < t .small .n
   pub within : j ≤ lenOf t p
-  pub queue : queueAt (u .«ring_slots») (u .«ring_epochs») (t .n) (p * SPAN) head (lenOf t p) ≡ turned j (queueOf (view t) p)
-  pub others : (d : ℕ) → (d ≡ p → ⊥) → queueAt (u .«ring_slots») (u .«ring_epochs») (t .n) (d * SPAN) (headOf t d) (lenOf t d) ≡ queueAt (t .«ring_slots») (t .«ring_epochs») (t .n) (d * SPAN) (headOf t d) (lenOf t d)
+  pub queue : queueAt (u .«ring_slots») (u .«ring_epochs») (t .small .n) (p * SPAN) head (lenOf t p) ≡ turned j (queueOf (view t) p)
+  pub others : (d : ℕ) → (d ≡ p → ⊥) → queueAt (u .«ring_slots») (u .«ring_epochs») (t .small .n) (d * SPAN) (headOf t d) (lenOf t d) ≡ queueAt (t .«ring_slots») (t .«ring_epochs») (t .small .n) (d * SPAN) (headOf t d) (lenOf t d)
   pub passed : Passed (stealeable (view t)) (queueOf (view t) p) j
 
 module _ (t : Tasks) (p : ℕ) (r : Rep t) (hp : p < CPUS) where
@@ -69,52 +69,52 @@ module _ (t : Tasks) (p : ℕ) (r : Rep t) (hp : p < CPUS) where
       inside = omega (arith, long)
 
       -- the ring's head, and the rest
-      split : queueAt (u .«ring_slots») (u .«ring_epochs») (t .n) (p * SPAN) head (lenOf t p) ≡ idAt (u .«ring_slots») (u .«ring_epochs») (p * SPAN + head) ∷ queueAt (u .«ring_slots») (u .«ring_epochs») (t .n) (p * SPAN) (placed (t .n) (head + 1)) (lenOf t p - 1)
+      split : queueAt (u .«ring_slots») (u .«ring_epochs») (t .small .n) (p * SPAN) head (lenOf t p) ≡ idAt (u .«ring_slots») (u .«ring_epochs») (p * SPAN + head) ∷ queueAt (u .«ring_slots») (u .«ring_epochs») (t .small .n) (p * SPAN) (placed (t .small .n) (head + 1)) (lenOf t p - 1)
       split =
-          ap (λ l. queueAt (u .«ring_slots») (u .«ring_epochs») (t .n) (p * SPAN) head l) (omega arith)
-          ∙ around-pop (idAt (u .«ring_slots») (u .«ring_epochs»)) (t .n) (p * SPAN) head (lenOf t p - 1) (s .headed)
+          ap (λ l. queueAt (u .«ring_slots») (u .«ring_epochs») (t .small .n) (p * SPAN) head l) (omega arith)
+          ∙ around-pop (idAt (u .«ring_slots») (u .«ring_epochs»)) (t .small .n) (p * SPAN) head (lenOf t p - 1) (s .headed)
 
-      both : idAt (u .«ring_slots») (u .«ring_epochs») (p * SPAN + head) ∷ queueAt (u .«ring_slots») (u .«ring_epochs») (t .n) (p * SPAN) (placed (t .n) (head + 1)) (lenOf t p - 1) ≡ getD (queueOf (view t) p) j idle ∷ (drop (suc j) (queueOf (view t) p) ++ take j (queueOf (view t) p))
+      both : idAt (u .«ring_slots») (u .«ring_epochs») (p * SPAN + head) ∷ queueAt (u .«ring_slots») (u .«ring_epochs») (t .small .n) (p * SPAN) (placed (t .small .n) (head + 1)) (lenOf t p - 1) ≡ getD (queueOf (view t) p) j idle ∷ (drop (suc j) (queueOf (view t) p) ++ take j (queueOf (view t) p))
       both = sym split ∙ s .queue ∙ turned-head (queueOf (view t) p) j inside
 
       first : idAt (u .«ring_slots») (u .«ring_epochs») (p * SPAN + head) ≡ getD (queueOf (view t) p) j idle
       first = let b = both in cc
 
-      rest : queueAt (u .«ring_slots») (u .«ring_epochs») (t .n) (p * SPAN) (placed (t .n) (head + 1)) (lenOf t p - 1) ≡ drop (suc j) (queueOf (view t) p) ++ take j (queueOf (view t) p)
+      rest : queueAt (u .«ring_slots») (u .«ring_epochs») (t .small .n) (p * SPAN) (placed (t .small .n) (head + 1)) (lenOf t p - 1) ≡ drop (suc j) (queueOf (view t) p) ++ take j (queueOf (view t) p)
       rest = let b = both in cc
 
-      pub turning-entry : (from : ℕ) → from ≡ p * SPAN + placed (t .n) head → idAt (u .«ring_slots») (u .«ring_epochs») from ≡ getD (queueOf (view t) p) j idle
-      turning-entry from e = ap (idAt (u .«ring_slots») (u .«ring_epochs»)) (e ∙ ap (λ h. p * SPAN + h) (placed-low (t .n) head (s .headed))) ∙ first
+      pub turning-entry : (from : ℕ) → from ≡ p * SPAN + placed (t .small .n) head → idAt (u .«ring_slots») (u .«ring_epochs») from ≡ getD (queueOf (view t) p) j idle
+      turning-entry from e = ap (idAt (u .«ring_slots») (u .«ring_epochs»)) (e ∙ ap (λ h. p * SPAN + h) (placed-low (t .small .n) head (s .headed))) ∙ first
 
       -- the test in memory is the model's
-      pub turning-test : (from : ℕ) (b : Bool) → from ≡ p * SPAN + placed (t .n) head
-          → b ≡ stealeableIn (u .epochs) (u .marks) (t .n) (t .idles) (idAt (u .«ring_slots») (u .«ring_epochs») from) → stealeable (view t) (getD (queueOf (view t) p) j idle) ≡ b
+      pub turning-test : (from : ℕ) (b : Bool) → from ≡ p * SPAN + placed (t .small .n) head
+          → b ≡ stealeableIn (u .epochs) (u .marks) (t .small .n) (t .small .idles) (idAt (u .«ring_slots») (u .«ring_epochs») from) → stealeable (view t) (getD (queueOf (view t) p) j idle) ≡ b
       turning-test from b e h =
           view-stealeable t r (getD (queueOf (view t) p) j idle)
-          ∙ ap₂ (λ (a : List ℕ) (k : List Bool). stealeableIn a k (t .n) (t .idles) (getD (queueOf (view t) p) j idle)) (sym (ap (λ (x : Tasks). x .epochs) (s .same))) (sym (ap (λ (x : Tasks). x .marks) (s .same)))
-          ∙ ap (stealeableIn (u .epochs) (u .marks) (t .n) (t .idles)) (sym (turning-entry from e))
+          ∙ ap₂ (λ (a k : List ℕ). stealeableIn a k (t .small .n) (t .small .idles) (getD (queueOf (view t) p) j idle)) (sym (ap (λ (x : Tasks). x .epochs) (s .same))) (sym (ap (λ (x : Tasks). x .marks) (s .same)))
+          ∙ ap (stealeableIn (u .epochs) (u .marks) (t .small .n) (t .small .idles)) (sym (turning-entry from e))
           ∙ sym h
 
-      pub turning-pass : (x : TaskId) (from to next : ℕ) → lenOf t p < t .n → from ≡ p * SPAN + placed (t .n) head → to ≡ p * SPAN + placed (t .n) (head + lenOf t p) → next ≡ placed (t .n) (head + 1)
+      pub turning-pass : (x : TaskId) (from to next : ℕ) → lenOf t p < t .small .n → from ≡ p * SPAN + placed (t .small .n) head → to ≡ p * SPAN + placed (t .small .n) (head + lenOf t p) → next ≡ placed (t .small .n) (head + 1)
           → x ≡ idAt (u .«ring_slots») (u .«ring_epochs») from → stealeable (view t) (getD (queueOf (view t) p) j idle) ≡ false
-          → Turning t p (putRings u (set (u .«ring_slots») to (x .slot)) (set (u .«ring_epochs») to (x .epoch)) (u .heads) (u .lens)) next (j + 1)
+          → Turning t p (putRings u (set (u .«ring_slots») to (x .slot)) (set (u .«ring_epochs») to (x .epoch)) (u .small .heads) (u .small .lens)) next (j + 1)
       turning-pass x from to next room ef et en ex not-it =
-          let lo = placed-lt (t .n) (head + lenOf t p) (r .some) in
-          let ex2 : x ≡ idAt (u .«ring_slots») (u .«ring_epochs») (p * SPAN + head) = ex ∙ ap (idAt (u .«ring_slots») (u .«ring_epochs»)) (ef ∙ ap (λ h. p * SPAN + h) (placed-low (t .n) head (s .headed))) in
+          let lo = placed-lt (t .small .n) (head + lenOf t p) (r .some) in
+          let ex2 : x ≡ idAt (u .«ring_slots») (u .«ring_epochs») (p * SPAN + head) = ex ∙ ap (idAt (u .«ring_slots») (u .«ring_epochs»)) (ef ∙ ap (λ h. p * SPAN + h) (placed-low (t .small .n) head (s .headed))) in
           record {
-            same = ap (λ (y : Tasks). putRings y (set (u .«ring_slots») to (x .slot)) (set (u .«ring_epochs») to (x .epoch)) (y .heads) (y .lens)) (s .same);
+            same = ap (λ (y : Tasks). putRings y (set (u .«ring_slots») to (x .slot)) (set (u .«ring_epochs») to (x .epoch)) (y .small .heads) (y .small .lens)) (s .same);
             slots = length-set (u .«ring_slots») to (x .slot) ∙ s .slots;
             tenures = length-set (u .«ring_epochs») to (x .epoch) ∙ s .tenures;
-            headed = rw en (placed-lt (t .n) (head + 1) (r .some));
+            headed = rw en (placed-lt (t .small .n) (head + 1) (r .some));
             within = omega arith;
             queue =
-                ap (λ h. queueAt (set (u .«ring_slots») to (x .slot)) (set (u .«ring_epochs») to (x .epoch)) (t .n) (p * SPAN) h (lenOf t p)) en
-                ∙ queue-turn (u .«ring_slots») (u .«ring_epochs») (t .n) (p * SPAN) head (lenOf t p) to (lenOf t p - 1) x (s .headed) room (omega arith) (omega (arith, s .slots, r .most)) (omega (arith, s .tenures, r .most)) ex2 et
+                ap (λ h. queueAt (set (u .«ring_slots») to (x .slot)) (set (u .«ring_epochs») to (x .epoch)) (t .small .n) (p * SPAN) h (lenOf t p)) en
+                ∙ queue-turn (u .«ring_slots») (u .«ring_epochs») (t .small .n) (p * SPAN) head (lenOf t p) to (lenOf t p - 1) x (s .headed) room (omega arith) (omega (arith, s .slots, r .most)) (omega (arith, s .tenures, r .most)) ex2 et
                 ∙ ap₂ (λ (l : List TaskId) (y : TaskId). l ++ (y ∷ [])) rest (ex2 ∙ first)
                 ∙ turned-next (queueOf (view t) p) j inside;
             others = λ d ne.
-                queue-else (u .«ring_slots») (u .«ring_epochs») (t .n) (d * SPAN) (headOf t d) (lenOf t d) to (x .slot) (x .epoch)
-                (λ k _ z. ne (omega (arith, r .most, lo, placed-lt (t .n) (headOf t d + k) (r .some))))
+                queue-else (u .«ring_slots») (u .«ring_epochs») (t .small .n) (d * SPAN) (headOf t d) (lenOf t d) to (x .slot) (x .epoch)
+                (λ k _ z. ne (omega (arith, r .most, lo, placed-lt (t .small .n) (headOf t d + k) (r .some))))
                 ∙ s .others d ne;
             passed = passed-more (stealeable (view t)) (queueOf (view t) p) j idle (s .passed) inside not-it;
           }
@@ -122,19 +122,19 @@ module _ (t : Tasks) (p : ℕ) (r : Rep t) (hp : p < CPUS) where
     -- the head stored: the queue turned
     module _ where
       done : Tasks
-      done = putRings t (u .«ring_slots») (u .«ring_epochs») (set (t .heads) p head) (t .lens)
+      done = putRings t (u .«ring_slots») (u .«ring_epochs») (set (t .small .heads) p head) (t .small .lens)
 
       done-else : (d : ℕ) → (d ≡ p → ⊥) → cpuAt done d ≡ cpuAt t d
       unfolding cpuAt done
       done-else d ne =
-          ap (λ y. record { queue = y; current = getD (t .currents) d idle; idle = getD (t .idles) d idle })
-          (ap (λ h. queueAt (u .«ring_slots») (u .«ring_epochs») (t .n) (d * SPAN) h (lenOf t d)) (getD-set-other (t .heads) p d head 0 ne) ∙ s .others d ne)
+          ap (λ y. record { queue = y; current = getD (t .small .currents) d idle; idle = getD (t .small .idles) d idle })
+          (ap (λ h. queueAt (u .«ring_slots») (u .«ring_epochs») (t .small .n) (d * SPAN) h (lenOf t d)) (getD-set-other (t .small .heads) p d head 0 ne) ∙ s .others d ne)
 
       done-here : cpuAt done p ≡ setQueue (cpuAt t p) (turned j (queueOf (view t) p))
       unfolding cpuAt done
       done-here =
-          ap (λ y. record { queue = y; current = getD (t .currents) p idle; idle = getD (t .idles) p idle })
-          (ap (λ h. queueAt (u .«ring_slots») (u .«ring_epochs») (t .n) (p * SPAN) h (lenOf t p)) (getD-set-same (t .heads) p head 0 (omega (arith, r .heads))) ∙ s .queue)
+          ap (λ y. record { queue = y; current = getD (t .small .currents) p idle; idle = getD (t .small .idles) p idle })
+          (ap (λ h. queueAt (u .«ring_slots») (u .«ring_epochs») (t .small .n) (p * SPAN) h (lenOf t p)) (getD-set-same (t .small .heads) p head 0 (omega (arith, r .heads))) ∙ s .queue)
 
       done-view : view done ≡ withQueue (view t) p (turned j (queueOf (view t) p))
       unfolding view done
@@ -146,17 +146,17 @@ module _ (t : Tasks) (p : ℕ) (r : Rep t) (hp : p < CPUS) where
       done-rep : Rep done
       unfolding done
       done-rep =
-          rep-rings t _ _ _ _ r (s .slots) (s .tenures) (length-set (t .heads) p head ∙ r .heads) (r .lens)
+          rep-rings t _ _ _ _ r (s .slots) (s .tenures) (length-set (t .small .heads) p head ∙ r .heads) (r .lens)
           (λ d h. (go d h (ℕ-discrete d p), r .rings d h .len))
         where
-          go : (d : ℕ) → d < CPUS → Dec (d ≡ p) → getD (set (t .heads) p head) d 0 < t .n
-          go d h (yes e) = rw (e, getD-set-same (t .heads) p head 0 (omega (arith, r .heads))) (s .headed)
-          go d h (no e) = rw (getD-set-other (t .heads) p d head 0 e) (r .rings d h .head)
+          go : (d : ℕ) → d < CPUS → Dec (d ≡ p) → getD (set (t .small .heads) p head) d 0 < t .small .n
+          go d h (yes e) = rw (e, getD-set-same (t .small .heads) p head 0 (omega (arith, r .heads))) (s .headed)
+          go d h (no e) = rw (getD-set-other (t .small .heads) p d head 0 e) (r .rings d h .head)
 
-      pub turning-end : (k : ℕ) → k ≡ j → j ≡ lootAt (view t) (queueOf (view t) p) → Scans t p (putRings u (u .«ring_slots») (u .«ring_epochs») (set (u .heads) p head) (u .lens)) k
+      pub turning-end : (k : ℕ) → k ≡ j → j ≡ lootAt (view t) (queueOf (view t) p) → Scans t p (putRings u (u .«ring_slots») (u .«ring_epochs») (set (u .small .heads) p head) (u .small .lens)) k
       unfolding done
       turning-end k e f =
-          let same : putRings u (u .«ring_slots») (u .«ring_epochs») (set (u .heads) p head) (u .lens) ≡ done = ap (λ (y : Tasks). putRings y (u .«ring_slots») (u .«ring_epochs») (set (y .heads) p head) (y .lens)) (s .same) in
+          let same : putRings u (u .«ring_slots») (u .«ring_epochs») (set (u .small .heads) p head) (u .small .lens) ≡ done = ap (λ (y : Tasks). putRings y (u .«ring_slots») (u .«ring_epochs») (set (y .small .heads) p head) (y .small .lens)) (s .same) in
           rw e
           (record { rep = subst Rep (sym same) done-rep; place = f; within = omega (arith, long, s .within); after = ap view same ∙ done-view })
 

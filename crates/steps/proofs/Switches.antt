@@ -42,13 +42,13 @@ module _ (t : Tasks) (c : ℕ) (k : Kind) (w : Sound t) (on : getD (t .states) 0
     pub cpu-zero : c ≡ 0 → startedOn (view t) c ≡ true
     cpu-zero e = rw (eq-eqb c 0 e) (is-on t w on)
 
-    cpu-other : (c ≡ 0 → ⊥) → startedOn (view t) c ≡ not (sameId (getD (t .idles) c idle) idle)
+    cpu-other : (c ≡ 0 → ⊥) → startedOn (view t) c ≡ not (sameId (getD (t .small .idles) c idle) idle)
     cpu-other ne = rw (ne-eqb c 0 ne) (ap (λ i. not (sameId i idle)) (view-idle t c hc))
 
-    pub cpu-on : (c ≡ 0 → ⊥) → sameId (getD (t .idles) c idle) idle ≡ false → startedOn (view t) c ≡ true
+    pub cpu-on : (c ≡ 0 → ⊥) → sameId (getD (t .small .idles) c idle) idle ≡ false → startedOn (view t) c ≡ true
     cpu-on ne h = cpu-other ne ∙ ap not h
 
-    pub switch-off : (c ≡ 0 → ⊥) → sameId (getD (t .idles) c idle) idle ≡ true → Does table t t (refused 6) (switchStep (view t) c k)
+    pub switch-off : (c ≡ 0 → ⊥) → sameId (getD (t .small .idles) c idle) idle ≡ true → Does table t t (refused 6) (switchStep (view t) c k)
     unfolding switchStep
     switch-off ne h =
         rw (when-on t w _ on, lt-ltb c (length (view t .cpus)) (omega (arith, view-ncpus t)), cpu-other ne, h)
@@ -59,7 +59,7 @@ module _ (t : Tasks) (c : ℕ) (k : Kind) (w : Sound t) (on : getD (t .states) 0
       unfolding switchStep
       switches = rw (when-on t w _ on, lt-ltb c (length (view t .cpus)) (omega (arith, view-ncpus t)), up)
 
-      rests : (b : Bool) → sameId (getD (t .currents) c idle) (getD (t .idles) c idle) ≡ b → idles (view t) c ≡ b
+      rests : (b : Bool) → sameId (getD (t .small .currents) c idle) (getD (t .small .idles) c idle) ≡ b → idles (view t) c ≡ b
       rests b h = ap₂ sameId (view-current t c hc) (view-idle t c hc) ∙ h
 
       -- by what the pull did
@@ -75,11 +75,11 @@ module _ (t : Tasks) (c : ℕ) (k : Kind) (w : Sound t) (on : getD (t .states) 0
               even true = refl
               even false = refl
 
-      pub pulled-none : sameId (getD (t .currents) c idle) (getD (t .idles) c idle) ≡ false → view t ≡ pulls (view t) c
+      pub pulled-none : sameId (getD (t .small .currents) c idle) (getD (t .small .idles) c idle) ≡ false → view t ≡ pulls (view t) c
       unfolding pulls
       pulled-none h = rw (rests false h)
 
-      pub pulled-tried : sameId (getD (t .currents) c idle) (getD (t .idles) c idle) ≡ true → lenOf t c ≡ 0 → (u : Tasks) (b : Bool) → Pulls t c u b → view u ≡ pulls (view t) c
+      pub pulled-tried : sameId (getD (t .small .currents) c idle) (getD (t .small .idles) c idle) ≡ true → lenOf t c ≡ 0 → (u : Tasks) (b : Bool) → Pulls t c u b → view u ≡ pulls (view t) c
       unfolding pulls
       pulled-tried h z u b p = p .after ∙ rw (rests true h) (go (queueOf (view t) c) (view-len t c hc ∙ z))
         where
@@ -88,7 +88,7 @@ module _ (t : Tasks) (c : ℕ) (k : Kind) (w : Sound t) (on : getD (t .states) 0
           go (x ∷ l) e = absurd (omega arith)
 
       -- idle stays, but for a yield
-      pub idle-stays : (u : Tasks) → Rep u → view u ≡ pulls (view t) c → sameId (getD (t .currents) c idle) (getD (t .idles) c idle) ≡ true → isYield k ≡ false → Does table t u stays (switchStep (view t) c k)
+      pub idle-stays : (u : Tasks) → Rep u → view u ≡ pulls (view t) c → sameId (getD (t .small .currents) c idle) (getD (t .small .idles) c idle) ≡ true → isYield k ≡ false → Does table t u stays (switchStep (view t) c k)
       idle-stays u r e h y =
           let stay : switchStep (view t) c k ≡ record { reply = stays; after = pulls (view t) c } = switches ∙ switched-idle (view t) c k (rests true h) y in
           ends t w u stays (switchStep (view t) c k) r (λ z. z) (ap (λ (s : Step Model). s .reply) (sym stay)) (e ∙ ap (λ (s : Step Model). s .after) (sym stay)) (switch-sound (view t) c k (w .model))
@@ -100,5 +100,5 @@ module _ (t : Tasks) (c : ℕ) (k : Kind) (w : Sound t) (on : getD (t .states) 0
           go true = refl
           go false = refl
 
-      pub ready-task : sameId (getD (t .currents) c idle) (getD (t .idles) c idle) ≡ false → Ready t c k t
+      pub ready-task : sameId (getD (t .small .currents) c idle) (getD (t .small .idles) c idle) ≡ false → Ready t c k t
       ready-task h = record { rep = w .rep; after = pulled-none h; goes = rw (rests false h) }

@@ -7,6 +7,7 @@ use Prim.Native.Nat.{ℕ, _+_, _-_, _*_, _%_, _^_, _<_}
 use native.Mathlib.Omega.{arith}
 use lib.ListN.{length, getD}
 use lib.Seq.{getD-set-same, set-set}
+use Rattle.lists.specs.Flags.{isSet}
 use Rattle.ids.specs.declared.TaskId.{TaskId}
 use Rattle.ids.specs.Id.{sameId, idle}
 use Rattle.answers.specs.Reply.{stays, switched}
@@ -43,24 +44,24 @@ pub record Going (u : Tasks) (c : ℕ) (k : Kind) : Type 0 where
 
 module _ (u : Tasks) (c : ℕ) (k : Kind) (hc : c < CPUS) (g : Going u c k) where
   abbrev from : TaskId
-  from = getD (u .currents) c idle
+  from = getD (u .small .currents) c idle
 
-  cur : currentOf (view u) c ≡ getD (u .currents) c idle
+  cur : currentOf (view u) c ≡ getD (u .small .currents) c idle
   cur = view-current u c hc
 
-  pub from-slot : getD (u .currents) c idle .slot < u .n
+  pub from-slot : getD (u .small .currents) c idle .slot < u .small .n
   from-slot = omega (arith, on-facts (view u) (g .live) c hc (g .on) .current .slot, view-n u, ap (λ (x : TaskId). x .slot) cur)
 
-  pub ring-room : lenOf u c < u .n
+  pub ring-room : lenOf u c < u .small .n
   ring-room = omega (arith, room (view u) (g .shape) (g .live) c hc, view-len u c hc, view-n u)
 
   -- LEAVING
 
-  pub left-tail : (v i l : ℕ) → v ≡ READY → i ≡ c * SPAN + placed (u .n) (headOf u c + lenOf u c) → l ≡ lenOf u c + 1
-      → let w = putTail (putState u (getD (u .currents) c idle .slot) v) c i l (getD (u .currents) c idle) in
+  pub left-tail : (v i l : ℕ) → v ≡ READY → i ≡ c * SPAN + placed (u .small .n) (headOf u c + lenOf u c) → l ≡ lenOf u c + 1
+      → let w = putTail (putState u (getD (u .small .currents) c idle .slot) v) c i l (getD (u .small .currents) c idle) in
       Rep w × (view w ≡ pushed (withState (view u) (currentOf (view u) c .slot) READY) c (currentOf (view u) c))
   left-tail v i l e p q =
-      let f = getD (u .currents) c idle in
+      let f = getD (u .small .currents) c idle in
       let a = putState u (f .slot) v in
       let ra = rep-state u (f .slot) (g .rep) v in (
         rep-tail a c i l f ra hc ring-room p q,
@@ -69,27 +70,27 @@ module _ (u : Tasks) (c : ℕ) (k : Kind) (hc : c < CPUS) (g : Going u c k) wher
             ∙ ap₂ (λ (x : TaskId) (s : ℕ). pushed (withState (view u) (x .slot) s) c x) (sym cur) e,
       )
 
-  pub left-block : (v b : ℕ) → v ≡ BLOCKED → b ≡ capped (u .«block_events»)
-      → let w = putRest (putState u (getD (u .currents) c idle .slot) v) (u .parked) (u .«parked_id») (u .overwrites) b (u .peak) in
+  pub left-block : (v b : ℕ) → v ≡ BLOCKED → b ≡ capped (u .small .«block_events»)
+      → let w = putRest (putState u (getD (u .small .currents) c idle .slot) v) (u .small .parked) (u .small .«parked_id») (u .small .overwrites) b (u .small .peak) in
       Rep w × (view w ≡ leaves (view u) c block)
   unfolding leaves
   left-block v b e h =
-      let f = getD (u .currents) c idle in
+      let f = getD (u .small .currents) c idle in
       let a = putState u (f .slot) v in (
-        rep-rest a (u .parked) (u .«parked_id») (u .overwrites) b (u .peak) (rep-state u (f .slot) (g .rep) v),
-        store-rest a (u .parked) (u .«parked_id») (u .overwrites) b (u .peak)
-            ∙ ap₂ (λ (m : Model) (x : ℕ). restTo m (cond (u .parked) (some (u .«parked_id»)) none) (u .overwrites) x (u .peak)) (store-state u (f .slot) from-slot v) (h ∙ ap capped (sym (view-events u)))
-            ∙ ap₂ (λ (x : TaskId) (s : ℕ). restTo (withState (view u) (x .slot) s) (cond (u .parked) (some (u .«parked_id»)) none) (u .overwrites) (capped (view u .blockEvents)) (u .peak)) (sym cur) e
-            ∙ ap (λ p. restTo (withState (view u) (currentOf (view u) c .slot) BLOCKED) p (u .overwrites) (capped (view u .blockEvents)) (u .peak)) (sym (view-parked u))
+        rep-rest a (u .small .parked) (u .small .«parked_id») (u .small .overwrites) b (u .small .peak) (g .rep .flag) (rep-state u (f .slot) (g .rep) v),
+        store-rest a (u .small .parked) (u .small .«parked_id») (u .small .overwrites) b (u .small .peak)
+            ∙ ap₂ (λ (m : Model) (x : ℕ). restTo m (cond (isSet (u .small .parked)) (some (u .small .«parked_id»)) none) (u .small .overwrites) x (u .small .peak)) (store-state u (f .slot) from-slot v) (h ∙ ap capped (sym (view-events u)))
+            ∙ ap₂ (λ (x : TaskId) (s : ℕ). restTo (withState (view u) (x .slot) s) (cond (isSet (u .small .parked)) (some (u .small .«parked_id»)) none) (u .small .overwrites) (capped (view u .blockEvents)) (u .small .peak)) (sym cur) e
+            ∙ ap (λ p. restTo (withState (view u) (currentOf (view u) c .slot) BLOCKED) p (u .small .overwrites) (capped (view u .blockEvents)) (u .small .peak)) (sym (view-parked u))
             ∙ ap₂ (λ o y. restTo (withState (view u) (currentOf (view u) c .slot) BLOCKED) (view u .parked) o (capped (view u .blockEvents)) y) (sym (view-overwrites u)) (sym (view-peak u)),
       )
 
-  pub left-exit : (v x : ℕ) → v ≡ EMPTY → x ≡ (getD (u .epochs) (getD (u .currents) c idle .slot) 0 + 1) % 2 ^ 16
-      → let w = putEpoch (putState u (getD (u .currents) c idle .slot) v) (getD (u .currents) c idle .slot) x in
+  pub left-exit : (v x : ℕ) → v ≡ EMPTY → x ≡ (getD (u .epochs) (getD (u .small .currents) c idle .slot) 0 + 1) % 2 ^ 16
+      → let w = putEpoch (putState u (getD (u .small .currents) c idle .slot) v) (getD (u .small .currents) c idle .slot) x in
       Rep w × (view w ≡ leaves (view u) c exit)
   unfolding leaves
   left-exit v x e h =
-      let f = getD (u .currents) c idle in
+      let f = getD (u .small .currents) c idle in
       let a = putState u (f .slot) v in (
         rep-epoch a (f .slot) (rep-state u (f .slot) (g .rep) v) x,
         store-epoch a (f .slot) from-slot x
@@ -112,7 +113,7 @@ module _ (u : Tasks) (c : ℕ) (k : Kind) (hc : c < CPUS) (g : Going u c k) wher
     split : queueOf (leaves (view u) c k) c ≡ headIn v c ∷ restIn v c
     split = sym (ap (λ (m : Model). queueOf m c) (l .after)) ∙ view-split v c (l .rep) hc some-left
 
-    pub head-slot : headIn v c .slot < v .n
+    pub head-slot : headIn v c .slot < v .small .n
     head-slot =
         let core = leaves-core (view u) (g .shape) (g .live) c hc (g .on) k (g .may) in
         let known = known-head (leaves (view u) c k) (headIn v c) (restIn v c) (subst (λ q. plain.AllKnown (leaves (view u) c k) q) split (core .cpus c hc .entries)) in
@@ -124,18 +125,18 @@ module _ (u : Tasks) (c : ℕ) (k : Kind) (hc : c < CPUS) (g : Going u c k) wher
         pos : (n : ℕ) → (n ≡ 0 → ⊥) → 0 < n
         pos n h = omega arith
 
-    pub head-entry : (at : ℕ) → at ≡ c * SPAN + placed (v .n) (headOf v c) → ringIn v at ≡ headIn v c
-    head-entry at e = ap (ringIn v) (e ∙ ap (λ h. c * SPAN + h) (placed-low (v .n) (headOf v c) (l .rep .rings c hc .head)))
+    pub head-entry : (at : ℕ) → at ≡ c * SPAN + placed (v .small .n) (headOf v c) → ringIn v at ≡ headIn v c
+    head-entry at e = ap (ringIn v) (e ∙ ap (λ h. c * SPAN + h) (placed-low (v .small .n) (headOf v c) (l .rep .rings c hc .head)))
 
     -- the head's stores
-    module _ (x : TaskId) (at s h n : ℕ) (ea : at ≡ c * SPAN + placed (v .n) (headOf v c)) (ex : x ≡ ringIn v at) (es : s ≡ RUNNING) (eh : h ≡ placed (v .n) (headOf v c + 1)) (en : n ≡ lenOf v c - 1) where
+    module _ (x : TaskId) (at s h n : ℕ) (ea : at ≡ c * SPAN + placed (v .small .n) (headOf v c)) (ex : x ≡ ringIn v at) (es : s ≡ RUNNING) (eh : h ≡ placed (v .small .n) (headOf v c + 1)) (en : n ≡ lenOf v c - 1) where
       w : Tasks
       w = putCurrent (putHead (putState v (x .slot) s) c h n) c x
 
       is-head : x ≡ headIn v c
       is-head = ex ∙ head-entry at ea
 
-      near : x .slot < v .n
+      near : x .slot < v .small .n
       near = omega (arith, head-slot, ap (λ (y : TaskId). y .slot) is-head)
 
       ra : Rep (putState v (x .slot) s)
@@ -166,10 +167,10 @@ module _ (u : Tasks) (c : ℕ) (k : Kind) (hc : c < CPUS) (g : Going u c k) wher
       line : queueOf (leaves (view u) c k) c ≡ x ∷ restIn v c
       line = split ∙ ap (λ y. y ∷ restIn v c) (sym is-head)
 
-      pub turn-same : sameId x (getD (u .currents) c idle) ≡ true → turn (view u) c k ≡ record { reply = stays; after = enters (leaves (view u) c k) c x (restIn v c) }
+      pub turn-same : sameId x (getD (u .small .currents) c idle) ≡ true → turn (view u) c k ≡ record { reply = stays; after = enters (leaves (view u) c k) c x (restIn v c) }
       unfolding turn
-      turn-same t = ap₂ (λ f q. chooses (leaves (view u) c k) c k f q) cur line ∙ chooses-same (leaves (view u) c k) c k (getD (u .currents) c idle) x (restIn v c) t
+      turn-same t = ap₂ (λ f q. chooses (leaves (view u) c k) c k f q) cur line ∙ chooses-same (leaves (view u) c k) c k (getD (u .small .currents) c idle) x (restIn v c) t
 
-      pub turn-other : sameId x (getD (u .currents) c idle) ≡ false → turn (view u) c k ≡ record { reply = switched (getD (u .currents) c idle) x (released (leaves (view u) c k) k); after = parks (enters (leaves (view u) c k) c x (restIn v c)) k (getD (u .currents) c idle) }
+      pub turn-other : sameId x (getD (u .small .currents) c idle) ≡ false → turn (view u) c k ≡ record { reply = switched (getD (u .small .currents) c idle) x (released (leaves (view u) c k) k); after = parks (enters (leaves (view u) c k) c x (restIn v c)) k (getD (u .small .currents) c idle) }
       unfolding turn
-      turn-other t = ap₂ (λ f q. chooses (leaves (view u) c k) c k f q) cur line ∙ chooses-other (leaves (view u) c k) c k (getD (u .currents) c idle) x (restIn v c) t
+      turn-other t = ap₂ (λ f q. chooses (leaves (view u) c k) c k f q) cur line ∙ chooses-other (leaves (view u) c k) c k (getD (u .small .currents) c idle) x (restIn v c) t

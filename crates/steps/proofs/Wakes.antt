@@ -24,21 +24,21 @@ use Rattle.steps.proofs.Common.{is-on, when-on, lives, has-room, keeps,
 
 -- what a known slot of a started table tells, in memory
 pub record Homed (t : Tasks) (s : ℕ) : Type 0 where
-  pub slot : s < t .n
-  pub most : t .n ≤ MOST
+  pub slot : s < t .small .n
+  pub most : t .small .n ≤ MOST
   pub home : getD (t .homes) s 0 < CPUS
-  pub head : headOf t (getD (t .homes) s 0) < t .n
-  pub len : lenOf t (getD (t .homes) s 0) < t .n
+  pub head : headOf t (getD (t .homes) s 0) < t .small .n
+  pub len : lenOf t (getD (t .homes) s 0) < t .small .n
 
 module _ (t : Tasks) (id : TaskId) (w : Sound t) (on : getD (t .states) 0 0 ≡ 0 → ⊥) where
-  pub wake-unknown : knownIn (t .epochs) (t .n) id ≡ false → Does table t t (told false) (wakeStep (view t) id)
+  pub wake-unknown : knownIn (t .epochs) (t .small .n) id ≡ false → Does table t t (told false) (wakeStep (view t) id)
   unfolding wakeStep
   wake-unknown h =
       rw (when-on t w _ on, view-known t id, h)
       (keeps t w (told false) _ (λ e. let z : _≡_ {A = ℕ} 0 1 = cc in omega arith) refl refl)
 
-  module _ (k : knownIn (t .epochs) (t .n) id ≡ true) where
-    near : id .slot < t .n
+  module _ (k : knownIn (t .epochs) (t .small .n) id ≡ true) where
+    near : id .slot < t .small .n
     near = omega (arith, known-is (view t) id (view-known t id ∙ k) .slot, view-n t)
 
     pub homed : Homed t (id .slot)
@@ -57,7 +57,7 @@ module _ (t : Tasks) (id : TaskId) (w : Sound t) (on : getD (t .states) 0 0 ≡ 
       unfolding wakeStep
       wakes = rw (when-on t w _ on, view-known t id, k, view-state t (id .slot) near, eq-eqb (getD (t .states) (id .slot) 0) BLOCKED blocked)
 
-      pub wake-done : (v c i l : ℕ) → v ≡ READY → c ≡ getD (t .homes) (id .slot) 0 → i ≡ c * SPAN + placed (t .n) (headOf t c + lenOf t c) → l ≡ lenOf t c + 1
+      pub wake-done : (v c i l : ℕ) → v ≡ READY → c ≡ getD (t .homes) (id .slot) 0 → i ≡ c * SPAN + placed (t .small .n) (headOf t c + lenOf t c) → l ≡ lenOf t c + 1
           → Does table t (putTail (putState t (id .slot) v) c i l id) (told true) (wakeStep (view t) id)
       unfolding woken
       wake-done v c i l ready e p q =
@@ -65,7 +65,7 @@ module _ (t : Tasks) (id : TaskId) (w : Sound t) (on : getD (t .states) 0 0 ≡ 
           let hc : c < CPUS = omega arith in
           let u = putState t (id .slot) v in
           let r = rep-state t (id .slot) (w .rep) v in
-          let free : lenOf u c < u .n = has-room t w (is-on t w on) c hc in
+          let free : lenOf u c < u .small .n = has-room t w (is-on t w on) c hc in
           let after : view (putTail u c i l id) ≡ woken (view t) id =
           store-tail u c i l id r hc free p q
           ∙ ap (λ m. pushed m c id) (store-state t (id .slot) near v ∙ ap (λ x. withState (view t) (id .slot) x) ready)

@@ -15,5 +15,5 @@ pub record Ready (t : Tasks) (c : ℕ) (k : Kind) (u : Tasks) : Type 0 where
 -- the current task has left
 pub record Left (u : Tasks) (c : ℕ) (k : Kind) (v : Tasks) : Type 0 where
   pub rep : Rep v
-  pub size : v .n ≡ u .n
+  pub size : v .small .n ≡ u .small .n
   pub after : view v ≡ leaves (view u) c k

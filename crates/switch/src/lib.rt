@@ -1,14 +1,13 @@
 // Switching: the current task of a CPU leaves, and the head of the CPU's queue runs.
 ghost use mathlib.Core.Path.{_≡_};
-ghost use mathlib.Core.Bool.{true};
-ghost use Prim.Native.Nat.{_≤_, _<_};
-ghost use Rattle.answers.specs.Contract.{Does};
-ghost use Rattle.model.specs.Model.{CPUS, capped, started};
+ghost use Rattle.model.specs.Model.{capped};
 ghost use Rattle.model.specs.Switch.{isYield, switchStep};
-ghost use Rattle.memory.specs.View.{view, Sound, table};
+ghost use Rattle.memory.specs.View.{Sound};
+ghost use Rattle.memory.specs.Lent.{lent, DoesLent};
 ghost use Rattle.switch.specs.Decisions.{kindOf, decisionReply};
 use answers::Refusal;
 use ids::TaskId;
+use memory::Small;
 use memory::Tasks;
 
 // Why the current task gives up the CPU.
@@ -37,6 +36,12 @@ pub struct Switched {
     pub answer: Decision,
 }
 
+// The same of a call whose arrays are lent.
+pub struct LentDecision {
+    pub small: Small,
+    pub answer: Decision,
+}
+
 fn is_yield(kind: Kind) -> bool
     ensures { λ r. ⌜ r ≡ isYield (kindOf kind) ⌝ }
 {
@@ -55,44 +60,54 @@ fn raised(v: u32) -> u32
     if v < 4294967295 { v + 1 } else { v }
 }
 
-pub fn switch_on_in(mut t: Tasks, cpu: u8, kind: Kind) -> Switched
-    requires { ⌜ Sound t ⌝ }
-    ensures { λ r. ⌜ Does table t (r .tasks) (decisionReply (r .answer)) (switchStep (view t) cpu (kindOf kind)) ⌝ }
+pub fn switch_on_in(
+    states: &mut [u8; 64],
+    epochs: &mut [u16; 64],
+    homes: &mut [u8; 64],
+    marks: &mut [u8; 64],
+    ring_slots: &mut [u16; 128],
+    ring_epochs: &mut [u16; 128],
+    mut s: Small,
+    cpu: u8,
+    kind: Kind,
+) -> LentDecision
+    requires { ⌜ Sound (lent states epochs homes marks «ring_slots» «ring_epochs» s) ⌝ }
+    ensures { λ r. ⌜ DoesLent states epochs homes marks «ring_slots» «ring_epochs» s (r .small) (decisionReply (r .answer)) (λ m. switchStep m cpu (kindOf kind)) ⌝ }
 {
-    if t.states[0] == memory::EMPTY {
-        return Switched {
-            tasks: t,
+    if states[0] == memory::EMPTY {
+        return LentDecision {
+            small: s,
             answer: Decision::Refused(Refusal::NotStarted),
         };
     }
     let c = cpu as usize;
     if memory::CPUS <= c {
-        return Switched {
-            tasks: t,
+        return LentDecision {
+            small: s,
             answer: Decision::Stay,
         };
     }
-    let idle = t.idles[c];
+    let idle = s.idles[c];
     if c != 0 {
         if idle.same(TaskId::IDLE) {
-            return Switched {
-                tasks: t,
+            return LentDecision {
+                small: s,
                 answer: Decision::Refused(Refusal::CpuOff),
             };
         }
     }
     // An idle CPU with an empty queue tries to steal first, whatever the kind; and idle gives way to a yield alone.
-    let n = t.n;
-    let from = t.currents[c];
+    let n = s.n;
+    let from = s.currents[c];
     if from.same(idle) {
-        if t.lens[c] == 0 {
-            let r = steal::pull(t, c);
-            let u = r.tasks;
-            t = u;
+        if s.lens[c] == 0 {
+            let r = steal::pull(states, epochs, homes, marks, ring_slots, ring_epochs, s, c);
+            let u = r.small;
+            s = u;
         }
         if !is_yield(kind) {
-            return Switched {
-                tasks: t,
+            return LentDecision {
+                small: s,
                 answer: Decision::Stay,
             };
         }
@@ -101,58 +116,58 @@ pub fn switch_on_in(mut t: Tasks, cpu: u8, kind: Kind) -> Switched
     let f = from.slot as usize;
     match kind {
         Kind::Yield | Kind::Preempt => {
-            let len = t.lens[c];
-            let to = memory::spot(c, n, t.heads[c] + len);
-            t.states[f] = memory::READY;
-            t.ring_slots[to] = from.slot;
-            t.ring_epochs[to] = from.epoch;
-            t.lens[c] = len + 1;
+            let len = s.lens[c];
+            let to = memory::spot(c, n, s.heads[c] + len);
+            states[f] = memory::READY;
+            ring_slots[to] = from.slot;
+            ring_epochs[to] = from.epoch;
+            s.lens[c] = len + 1;
         }
         Kind::Block => {
-            t.states[f] = memory::BLOCKED;
-            t.block_events = raised(t.block_events);
+            states[f] = memory::BLOCKED;
+            s.block_events = raised(s.block_events);
         }
         Kind::Exit => {
-            t.states[f] = memory::EMPTY;
-            t.epochs[f] = std::num::wrapping_add_u16(t.epochs[f], 1);
+            states[f] = memory::EMPTY;
+            epochs[f] = std::num::wrapping_add_u16(epochs[f], 1);
         }
     }
     // The head runs.
-    let head = t.heads[c];
+    let head = s.heads[c];
     let at = memory::spot(c, n, head);
-    let slot = t.ring_slots[at];
-    let epoch = t.ring_epochs[at];
+    let slot = ring_slots[at];
+    let epoch = ring_epochs[at];
     let to = TaskId {
         slot: slot,
         epoch: epoch,
     };
     let g = to.slot as usize;
-    t.states[g] = memory::RUNNING;
-    t.heads[c] = runqueue::place(n, head + 1);
-    t.lens[c] = t.lens[c] - 1;
-    t.currents[c] = to;
+    states[g] = memory::RUNNING;
+    s.heads[c] = runqueue::place(n, head + 1);
+    s.lens[c] = s.lens[c] - 1;
+    s.currents[c] = to;
     if to.same(from) {
-        return Switched {
-            tasks: t,
+        return LentDecision {
+            small: s,
             answer: Decision::Stay,
         };
     }
     // A leaver that ended is parked until its stack is collected.
     if let Kind::Exit = kind {
-        let was = t.parked;
-        let old = t.parked_id;
-        t.parked = true;
-        t.parked_id = from;
-        if was {
-            t.overwrites = raised(t.overwrites);
-            return Switched {
-                tasks: t,
+        let was = s.parked;
+        let old = s.parked_id;
+        s.parked = 1;
+        s.parked_id = from;
+        if was != 0 {
+            s.overwrites = raised(s.overwrites);
+            return LentDecision {
+                small: s,
                 answer: Decision::Switch(from, to, Release::Id(old)),
             };
         }
     }
-    Switched {
-        tasks: t,
+    LentDecision {
+        small: s,
         answer: Decision::Switch(from, to, Release::Nothing),
     }
 }

@@ -1,17 +1,18 @@
 // Damaged task tables: each clause of soundness broken by itself. Every call has to answer 1 and hand the table back.
 use crate::table;
 use ids::TaskId;
+use memory::Small;
 use memory::Tasks;
 use switch::Kind;
 
 // One field set to a number: n size, p parked, s parked id, k peak, o overwrites, b block events.
-fn set_one(t: Tasks, what: u8, at: u8, v: u8) -> Tasks {
-    let mut u = t;
+fn set_one(s: Small, what: u8, at: u8, v: u8) -> Small {
+    let mut u = s;
     if what == 110 {
         u.n = v as usize;
     }
     if what == 112 {
-        u.parked = v == 1;
+        u.parked = v;
     }
     if what == 115 {
         u.parked_id = TaskId::new(at as u16, v as u16);
@@ -29,8 +30,8 @@ fn set_one(t: Tasks, what: u8, at: u8, v: u8) -> Tasks {
 }
 
 // Of a CPU: h head, l length, c and C current by slot and epoch, i and I idle.
-fn set_cpu(t: Tasks, what: u8, at: usize, v: u8) -> Tasks {
-    let mut u = t;
+fn set_cpu(s: Small, what: u8, at: usize, v: u8) -> Small {
+    let mut u = s;
     if at < 2 {
         if what == 104 {
             u.heads[at] = v as usize;
@@ -68,7 +69,7 @@ fn set_slot(t: Tasks, what: u8, at: usize, v: u8) -> Tasks {
             u.homes[at] = v;
         }
         if what == 109 {
-            u.marks[at] = v == 1;
+            u.marks[at] = v;
         }
     }
     if at < 128 {
@@ -83,17 +84,18 @@ fn set_slot(t: Tasks, what: u8, at: usize, v: u8) -> Tasks {
 }
 
 fn set(t: Tasks, what: u8, at: u8, v: u8) -> Tasks {
-    let a = set_one(t, what, at, v);
+    let a = set_one(t.small, what, at, v);
     let b = set_cpu(a, what, at as usize, v);
-    let c = set_slot(b, what, at as usize, v);
-    c
+    let mut u = set_slot(t, what, at as usize, v);
+    u.small = b;
+    u
 }
 
 fn same_id(p: TaskId, q: TaskId) -> bool {
     p.same(q)
 }
 
-fn same_cpus(a: Tasks, b: Tasks) -> bool {
+fn same_cpus(a: Small, b: Small) -> bool {
     let mut c = 0;
     while c < 2 {
         if a.heads[c] != b.heads[c] {
@@ -113,7 +115,7 @@ fn same_cpus(a: Tasks, b: Tasks) -> bool {
     true
 }
 
-fn same_rest(a: Tasks, b: Tasks) -> bool {
+fn same_rest(a: Small, b: Small) -> bool {
     if a.n != b.n {
         return false;
     }
@@ -167,10 +169,10 @@ fn same_rings(a: Tasks, b: Tasks) -> bool {
 }
 
 fn came_back(t: Tasks, u: Tasks) {
-    if !same_cpus(t, u) {
+    if !same_cpus(t.small, u.small) {
         say::text(b" changed");
     }
-    if !same_rest(t, u) {
+    if !same_rest(t.small, u.small) {
         say::text(b" changed");
     }
     if !same_slots(t, u) {
@@ -334,9 +336,17 @@ fn parked(t: Tasks) {
     line(b"parked at 0", t, 115, 0, 255);
 }
 
+// Flags that are neither 0 nor 1.
+fn flags(t: Tasks) {
+    line(b"mark byte 2", t, 109, 3, 2);
+    line(b"mark byte 255", t, 109, 3, 255);
+    line(b"parked byte 2", t, 112, 0, 2);
+}
+
 // What is not compared.
 fn unused(t: Tasks) {
     unseen(b"a mark above n", t, 109, 8, 1);
+    unseen(b"a mark byte 2 above n", t, 109, 8, 2);
     unseen(b"a state above n", t, 116, 63, 9);
     unseen(b"a place outside the queue", t, 113, 5, 9);
 }
@@ -349,6 +359,7 @@ pub fn started() {
     idle_zero(t);
     idle_one(t);
     parked(t);
+    flags(t);
     unused(t);
 }
 

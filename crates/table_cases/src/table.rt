@@ -156,20 +156,19 @@ fn show(t: Tasks, op: u8, a: u8) {
 fn queue(t: Tasks, a: u8) {
     if a < 2 {
         let c = a as usize;
-        let n = t.n;
-        let head = t.heads[c];
-        let len = t.lens[c];
+        let s = t.small;
+        let n = s.n;
+        let head = s.heads[c];
+        let len = s.lens[c];
         if n < 65 {
             if head < n {
                 if len <= n {
                     let mut j = 0;
                     while j < len {
                         let at = memory::spot(c, n, head + j);
-                        let id = TaskId {
-                            slot: t.ring_slots[at],
-                            epoch: t.ring_epochs[at],
-                        };
-                        say::id(id);
+                        let slot = t.ring_slots[at];
+                        let epoch = t.ring_epochs[at];
+                        say::id(TaskId::new(slot, epoch));
                         j = j + 1;
                     }
                 }
@@ -181,11 +180,19 @@ fn queue(t: Tasks, a: u8) {
 fn marks(t: Tasks) {
     let mut s = 0;
     while s < 64 {
-        if s < t.n {
-            say::truth(t.marks[s]);
+        if s < t.small.n {
+            say::truth(t.marks[s] != 0);
         }
         s = s + 1;
     }
+}
+
+fn call(t: Tasks, op: u8, a: u8, b: u8, c: u8) -> Tasks {
+    let u = change(t, op, a, b, c);
+    read_cpu(u, op, a);
+    read_rest(u, op, a, b);
+    show(u, op, a);
+    u
 }
 
 // Runs a script on a table, and hands back what it left.
@@ -197,11 +204,8 @@ pub fn runs(t: Tasks, script: &[u8]) -> Tasks {
         let a = digit(script[i + 1]);
         let b = digit(script[i + 2]);
         let c = digit(script[i + 3]);
-        let v = change(u, op, a, b, c);
+        let v = call(u, op, a, b, c);
         u = v;
-        read_cpu(u, op, a);
-        read_rest(u, op, a, b);
-        show(u, op, a);
         i = i + 4;
     }
     u
@@ -370,7 +374,7 @@ fn size(n: usize) {
     let answer = r.answer;
     say::ack(answer);
     let t = r.tasks;
-    say::number(t.n as u64);
+    say::number(t.small.n as u64);
 }
 
 // A slot whose tasks end 65,536 times in all: the first id is known again.

@@ -30,21 +30,21 @@ use Rattle.wake.proofs.Held.{listed-small, head-after, none-held, some-
 abbrev at : WakeQueue → ℕ → ℕ
 at q i = getD (q .tokens) i 0
 
-view-c : (q : WakeQueue) → view q .c ≡ q .c
+view-c : (q : WakeQueue) → view q .c ≡ q .ends .c
 unfolding view
 view-c q = refl
 
-view-drops : (q : WakeQueue) → view q .drops ≡ q .drops
+view-drops : (q : WakeQueue) → view q .drops ≡ q .ends .drops
 unfolding view
 view-drops q = refl
 
-view-length : (q : WakeQueue) → length (view q .tokens) ≡ held (q .c) (q .head) (q .tail)
+view-length : (q : WakeQueue) → length (view q .tokens) ≡ held (q .ends .c) (q .ends .head) (q .ends .tail)
 unfolding view
-view-length q = around-length (at q) (q .c) 0 (q .tail) (held (q .c) (q .head) (q .tail))
+view-length q = around-length (at q) (q .ends .c) 0 (q .ends .tail) (held (q .ends .c) (q .ends .head) (q .ends .tail))
 
-view-none : (q : WakeQueue) → held (q .c) (q .head) (q .tail) ≡ 0 → view q .tokens ≡ []
+view-none : (q : WakeQueue) → held (q .ends .c) (q .ends .head) (q .ends .tail) ≡ 0 → view q .tokens ≡ []
 unfolding view
-view-none q e = rw e (around-none (at q) (q .c) 0 (q .tail))
+view-none q e = rw e (around-none (at q) (q .ends .c) 0 (q .ends .tail))
 
 -- MAKING AND READING
 
@@ -70,90 +70,90 @@ pub fit-last : (c head tail : ℕ) → listed c ≡ true → head < c → Tells 
 fit-last c head tail a b =
     tells-by (ltb tail c) (λ e. record { size = a; headed = b; tailed = ltb-true tail c e }) (λ e f. let g = ltb-false tail c e in omega arith)
 
-fresh-is : (c : ℕ) (q : WakeQueue) → listed c ≡ true → q .c ≡ c → q .head ≡ 0 → q .tail ≡ 0 → q .drops ≡ 0 → (view q ≡ fresh c) × Sound q
+fresh-is : (c : ℕ) (q : WakeQueue) → listed c ≡ true → q .ends .c ≡ c → q .ends .head ≡ 0 → q .ends .tail ≡ 0 → q .ends .drops ≡ 0 → (view q ≡ fresh c) × Sound q
 fresh-is c q l ec eh et ed =
     let s = listed-small c l in
-    let z = none-held (q .c) (q .head) (q .tail) (omega arith) (omega arith) (eh ∙ sym et) in (
+    let z = none-held (q .ends .c) (q .ends .head) (q .ends .tail) (omega arith) (omega arith) (eh ∙ sym et) in (
       ap₂ (λ a t. queueOf a t (view q .drops)) (view-c q ∙ ec) (view-none q z) ∙ ap (λ d. queueOf c [] d) (view-drops q ∙ ed),
       record { size = rw ec l; headed = omega arith; tailed = omega arith },
     )
 
-pub new-bad : (c : ℕ) (q : WakeQueue) → listed c ≡ false → q .c ≡ 2 → q .head ≡ 0 → q .tail ≡ 0 → q .drops ≡ 0 → Makes wakes q (refused 2) (newStep c)
+pub new-bad : (c : ℕ) (q : WakeQueue) → listed c ≡ false → q .ends .c ≡ 2 → q .ends .head ≡ 0 → q .ends .tail ≡ 0 → q .ends .drops ≡ 0 → Makes wakes q (refused 2) (newStep c)
 unfolding newStep listed
 new-bad c q l ec eh et ed = let f = fresh-is 2 q refl ec eh et ed in record { reply = rw l; after = rw l (f .0); sound = f .1 }
 
-pub new-done : (c : ℕ) (q : WakeQueue) → listed c ≡ true → q .c ≡ c → q .head ≡ 0 → q .tail ≡ 0 → q .drops ≡ 0 → Makes wakes q done (newStep c)
+pub new-done : (c : ℕ) (q : WakeQueue) → listed c ≡ true → q .ends .c ≡ c → q .ends .head ≡ 0 → q .ends .tail ≡ 0 → q .ends .drops ≡ 0 → Makes wakes q done (newStep c)
 unfolding newStep
 new-done c q l ec eh et ed = let f = fresh-is c q l ec eh et ed in record { reply = rw l; after = rw l (f .0); sound = f .1 }
 
 module _ (q : WakeQueue) (s : Sound q) where
-  pub drops-is : Answers wakes q (number (q .drops)) (dropsReply (view q))
+  pub drops-is : Answers wakes q (number (q .ends .drops)) (dropsReply (view q))
   drops-is = answers wakes q _ _ s (λ e. let z : _≡_ {A = ℕ} 0 1 = cc in omega arith) (ap number (sym (view-drops q)))
 
-  pub empty-is : Answers wakes q (told (eqb (q .head) (q .tail))) (emptyReply (view q))
+  pub empty-is : Answers wakes q (told (eqb (q .ends .head) (q .ends .tail))) (emptyReply (view q))
   empty-is =
       answers wakes q _ _ s (λ e. let z : _≡_ {A = ℕ} 0 1 = cc in omega arith)
-      (ap told (go (ℕ-discrete (q .head) (q .tail)) ∙ ap (λ k. eqb k 0) (sym (view-length q))))
+      (ap told (go (ℕ-discrete (q .ends .head) (q .ends .tail)) ∙ ap (λ k. eqb k 0) (sym (view-length q))))
     where
-      go : Dec (q .head ≡ q .tail) → eqb (q .head) (q .tail) ≡ eqb (held (q .c) (q .head) (q .tail)) 0
-      go (yes e) = eq-eqb (q .head) (q .tail) e ∙ sym (eq-eqb _ 0 (none-held (q .c) (q .head) (q .tail) (s .headed) (s .tailed) e))
-      go (no f) = ne-eqb (q .head) (q .tail) f ∙ sym (ne-eqb _ 0 (some-held (q .c) (q .head) (q .tail) (s .headed) (s .tailed) f))
+      go : Dec (q .ends .head ≡ q .ends .tail) → eqb (q .ends .head) (q .ends .tail) ≡ eqb (held (q .ends .c) (q .ends .head) (q .ends .tail)) 0
+      go (yes e) = eq-eqb (q .ends .head) (q .ends .tail) e ∙ sym (eq-eqb _ 0 (none-held (q .ends .c) (q .ends .head) (q .ends .tail) (s .headed) (s .tailed) e))
+      go (no f) = ne-eqb (q .ends .head) (q .ends .tail) f ∙ sym (ne-eqb _ 0 (some-held (q .ends .c) (q .ends .head) (q .ends .tail) (s .headed) (s .tailed) f))
 
 -- CHANGING
 
 -- one more drop
 abbrev pub missed : WakeQueue → ℕ → WakeQueue
-missed q d = record { c = q .c; head = q .head; tail = q .tail; drops = d; tokens = q .tokens }
+missed q d = record { ends = record { c = q .ends .c; head = q .ends .head; tail = q .ends .tail; drops = d }; tokens = q .tokens }
 
 -- a token stored at an index, and a new head
 abbrev pub put : WakeQueue → ℕ → ℕ → ℕ → WakeQueue
-put q i t x = record { c = q .c; head = x; tail = q .tail; drops = q .drops; tokens = set (q .tokens) i t }
+put q i t x = record { ends = record { c = q .ends .c; head = x; tail = q .ends .tail; drops = q .ends .drops }; tokens = set (q .tokens) i t }
 
 -- a new tail
 abbrev pub cut : WakeQueue → ℕ → WakeQueue
-cut q x = record { c = q .c; head = q .head; tail = x; drops = q .drops; tokens = q .tokens }
+cut q x = record { ends = record { c = q .ends .c; head = q .ends .head; tail = x; drops = q .ends .drops }; tokens = q .tokens }
 
-module _ (q : WakeQueue) (s : Sound q) (t x : ℕ) (next : x ≡ placed (q .c) (q .head + 1)) (below : x < q .c) where
-  pub push-full : (d : ℕ) → x ≡ q .tail → d ≡ (q .drops + 1) % DROPS → Does wakes q (missed q d) (told false) (pushStep (view q) t)
+module _ (q : WakeQueue) (s : Sound q) (t x : ℕ) (next : x ≡ placed (q .ends .c) (q .ends .head + 1)) (below : x < q .ends .c) where
+  pub push-full : (d : ℕ) → x ≡ q .ends .tail → d ≡ (q .ends .drops + 1) % DROPS → Does wakes q (missed q d) (told false) (pushStep (view q) t)
   unfolding pushStep view
   push-full d e f =
-      let full = held-full (q .c) (q .head) (q .tail) (s .headed) (s .tailed) x next e in
-      let no = le-ltb (length (view q .tokens) + 1) (q .c) (omega (arith, view-length q)) in
+      let full = held-full (q .ends .c) (q .ends .head) (q .ends .tail) (s .headed) (s .tailed) x next e in
+      let no = le-ltb (length (view q .tokens) + 1) (q .ends .c) (omega (arith, view-length q)) in
       does wakes q (missed q d) _ _ (λ r. r) (rw no) (rw (no, f)) (record { size = s .size; headed = s .headed; tailed = s .tailed })
 
-  pub push-done : (i : ℕ) → length (q .tokens) ≡ 64 → (x ≡ q .tail → ⊥) → i ≡ q .head → Does wakes q (put q i t x) (told true) (pushStep (view q) t)
+  pub push-done : (i : ℕ) → length (q .tokens) ≡ 64 → (x ≡ q .ends .tail → ⊥) → i ≡ q .ends .head → Does wakes q (put q i t x) (told true) (pushStep (view q) t)
   unfolding pushStep view
   push-done i long ne p =
-      let h = held (q .c) (q .head) (q .tail) in
-      let size = listed-small (q .c) (s .size) in
-      let room = held-room (q .c) (q .head) (q .tail) (s .headed) (s .tailed) x next ne in
-      let yes = lt-ltb (length (view q .tokens) + 1) (q .c) (omega (arith, view-length q)) in
-      let more = held-more (q .c) (q .head) (q .tail) x (s .headed) (s .tailed) next below ne in
-      let there = head-after (q .c) (q .head) (q .tail) (s .headed) (s .tailed) in
-      let tokens : around (λ j. getD (set (q .tokens) i t) j 0) (q .c) 0 (q .tail) (held (q .c) x (q .tail)) ≡ around (at q) (q .c) 0 (q .tail) h ++ (t ∷ []) =
-      ap (λ k. around (λ j. getD (set (q .tokens) i t) j 0) (q .c) 0 (q .tail) k) more
-      ∙ around-push (at q) (λ j. getD (set (q .tokens) i t) j 0) (q .c) 0 (q .tail) h i t (s .tailed) (omega arith) (omega arith)
+      let h = held (q .ends .c) (q .ends .head) (q .ends .tail) in
+      let size = listed-small (q .ends .c) (s .size) in
+      let room = held-room (q .ends .c) (q .ends .head) (q .ends .tail) (s .headed) (s .tailed) x next ne in
+      let yes = lt-ltb (length (view q .tokens) + 1) (q .ends .c) (omega (arith, view-length q)) in
+      let more = held-more (q .ends .c) (q .ends .head) (q .ends .tail) x (s .headed) (s .tailed) next below ne in
+      let there = head-after (q .ends .c) (q .ends .head) (q .ends .tail) (s .headed) (s .tailed) in
+      let tokens : around (λ j. getD (set (q .tokens) i t) j 0) (q .ends .c) 0 (q .ends .tail) (held (q .ends .c) x (q .ends .tail)) ≡ around (at q) (q .ends .c) 0 (q .ends .tail) h ++ (t ∷ []) =
+      ap (λ k. around (λ j. getD (set (q .tokens) i t) j 0) (q .ends .c) 0 (q .ends .tail) k) more
+      ∙ around-push (at q) (λ j. getD (set (q .tokens) i t) j 0) (q .ends .c) 0 (q .ends .tail) h i t (s .tailed) (omega arith) (omega arith)
       (getD-set-same (q .tokens) i t 0 (omega arith)) (λ j ne. getD-set-other (q .tokens) i j t 0 ne)
       in
-      does wakes q (put q i t x) _ _ (λ r. r) (rw yes) (rw yes (ap (λ l. queueOf (q .c) l (q .drops)) tokens)) (record { size = s .size; headed = below; tailed = s .tailed })
+      does wakes q (put q i t x) _ _ (λ r. r) (rw yes) (rw yes (ap (λ l. queueOf (q .ends .c) l (q .ends .drops)) tokens)) (record { size = s .size; headed = below; tailed = s .tailed })
 
 module _ (q : WakeQueue) (s : Sound q) where
-  pub pop-none : q .tail ≡ q .head → Does wakes q q (value none) (popStep (view q))
+  pub pop-none : q .ends .tail ≡ q .ends .head → Does wakes q q (value none) (popStep (view q))
   unfolding popOf
   pop-none e =
-      let v = view-none q (none-held (q .c) (q .head) (q .tail) (s .headed) (s .tailed) (sym e)) in
+      let v = view-none q (none-held (q .ends .c) (q .ends .head) (q .ends .tail) (s .headed) (s .tailed) (sym e)) in
       does-keep wakes q _ _ s (λ e. let z : _≡_ {A = ℕ} 0 1 = cc in omega arith) (rw v)
       (ap (λ l. queueOf (view q .c) l (view q .drops)) v ∙ sym (ap (λ l. popOf (view q .c) l (view q .drops) .after) v))
 
-  pub pop-done : (x : ℕ) → (q .tail ≡ q .head → ⊥) → x ≡ placed (q .c) (q .tail + 1) → x < q .c → Does wakes q (cut q x) (value (some (at q (q .tail)))) (popStep (view q))
+  pub pop-done : (x : ℕ) → (q .ends .tail ≡ q .ends .head → ⊥) → x ≡ placed (q .ends .c) (q .ends .tail + 1) → x < q .ends .c → Does wakes q (cut q x) (value (some (at q (q .ends .tail)))) (popStep (view q))
   unfolding popOf view
   pop-done x ne next below =
-      let less = held-less (q .c) (q .head) (q .tail) x (s .headed) (s .tailed) next below ne in
-      let rest = held (q .c) (q .head) x in
-      let v : view q .tokens ≡ at q (q .tail) ∷ view (cut q x) .tokens =
-      ap (λ k. around (at q) (q .c) 0 (q .tail) k) (less ∙ add-one rest)
-      ∙ around-pop (at q) (q .c) 0 (q .tail) rest (s .tailed)
-      ∙ ap₂ (λ a k. at q a ∷ around (at q) (q .c) 0 k rest) (omega arith) (sym next)
+      let less = held-less (q .ends .c) (q .ends .head) (q .ends .tail) x (s .headed) (s .tailed) next below ne in
+      let rest = held (q .ends .c) (q .ends .head) x in
+      let v : view q .tokens ≡ at q (q .ends .tail) ∷ view (cut q x) .tokens =
+      ap (λ k. around (at q) (q .ends .c) 0 (q .ends .tail) k) (less ∙ add-one rest)
+      ∙ around-pop (at q) (q .ends .c) 0 (q .ends .tail) rest (s .tailed)
+      ∙ ap₂ (λ a k. at q a ∷ around (at q) (q .ends .c) 0 k rest) (omega arith) (sym next)
       in
-      does wakes q (cut q x) _ _ (λ r. r) (ap (λ l. popOf (q .c) l (q .drops) .reply) (sym v) ∙ refl) (sym (ap (λ l. popOf (q .c) l (q .drops) .after) v))
+      does wakes q (cut q x) _ _ (λ r. r) (ap (λ l. popOf (q .ends .c) l (q .ends .drops) .reply) (sym v) ∙ refl) (sym (ap (λ l. popOf (q .ends .c) l (q .ends .drops) .after) v))
       (record { size = s .size; headed = s .headed; tailed = below })

@@ -1,4 +1,5 @@
 pub mod Queue
+pub mod Lent
 pub mod Steps
 pub mod Calls
 pub mod History

@@ -25,9 +25,9 @@ held c head tail = placed c (head + (c - tail))
 unfoldable pub view : WakeQueue → Queue
 view q =
     record {
-      c = q .c;
-      tokens = around (λ i. getD (q .tokens) i 0) (q .c) 0 (q .tail) (held (q .c) (q .head) (q .tail));
-      drops = q .drops;
+      c = q .ends .c;
+      tokens = around (λ i. getD (q .tokens) i 0) (q .ends .c) 0 (q .ends .tail) (held (q .ends .c) (q .ends .head) (q .ends .tail));
+      drops = q .ends .drops;
     }
 
 -- Document 01, "Wake queue": C listed, both indexes below C
@@ -37,7 +37,7 @@ pub record Fit (c head tail : ℕ) : Type 0 where
   pub tailed : tail < c
 
 abbrev pub Sound : WakeQueue → Type 0
-Sound q = Fit (q .c) (q .head) (q .tail)
+Sound q = Fit (q .ends .c) (q .ends .head) (q .ends .tail)
 
 abbrev pub wakes : Kind
 wakes = record { Memory = WakeQueue; Plain = Queue; Sound = Sound; view = view }

@@ -3,8 +3,9 @@
 ghost use mathlib.Core.Path.{_≡_};
 ghost use Rattle.lists.specs.Tells.{Tells};
 ghost use Rattle.answers.specs.Answers.{ackReply, toldReply, countReply};
-ghost use Rattle.answers.specs.Contract.{Makes, Does, Meets, Answers};
+ghost use Rattle.answers.specs.Contract.{Makes, Meets, Answers};
 ghost use Rattle.wake.specs.Queue.{listed, Fit, view, Sound, wakes};
+ghost use Rattle.wake.specs.Lent.{lent, DoesLent, MeetsLent, AnswersAny};
 ghost use Rattle.wake.specs.Steps.{poppedReply, newStep, pushStep, popStep, dropsReply, emptyReply};
 use answers::Ack;
 use answers::Count;
@@ -12,13 +13,19 @@ use answers::Refusal;
 use answers::Told;
 use ids::Token;
 
-// Of the 64 places only the first c count. head is where the next token is written, tail where the next is read.
+// The queue without its tokens: its size, where the next token is written (head) and where the next is read (tail).
 #[repr(C)]
-pub struct WakeQueue {
+pub struct Ends {
     pub c: usize,
     pub head: usize,
     pub tail: usize,
     pub drops: u32,
+}
+
+// Of the 64 places only the first c count.
+#[repr(C)]
+pub struct WakeQueue {
+    pub ends: Ends,
     pub tokens: [u32; 64],
 }
 
@@ -45,6 +52,22 @@ pub struct Taken {
     pub answer: Popped,
 }
 
+// The same of a call whose tokens are lent: they are changed where they lie, and the ends come back.
+pub struct LentAck {
+    pub ends: Ends,
+    pub answer: Ack,
+}
+
+pub struct LentTold {
+    pub ends: Ends,
+    pub answer: Told,
+}
+
+pub struct LentPopped {
+    pub ends: Ends,
+    pub answer: Popped,
+}
+
 // Whether a queue can have c places.
 fn is_listed(c: usize) -> bool
     ensures { λ r. ⌜ r ≡ listed c ⌝ }
@@ -68,91 +91,181 @@ fn is_fit(c: usize, head: usize, tail: usize) -> bool
     tail < c
 }
 
+// An array that is lent as a slice tells the proof its size, which a reference to an array does not. It compiles to nothing.
+fn sized(tokens: &[u32]) {}
+
+fn new_ends(c: usize) -> Ends
+    ensures { λ r. ⌜ r ≡ record { c = c; head = 0; tail = 0; drops = 0 } ⌝ }
+{
+    Ends {
+        c: c,
+        head: 0,
+        tail: 0,
+        drops: 0,
+    }
+}
+
+// A queue is made where its tokens lie.
+pub fn new_at(tokens: &mut [u32; 64], c: usize) -> LentAck
+    ensures { λ r. ⌜ Makes wakes (lent (tokens .exit) (r .ends)) (ackReply (r .answer)) (newStep c) ⌝ }
+{
+    *tokens = [0; 64];
+    if !is_listed(c) {
+        return LentAck {
+            ends: new_ends(2),
+            answer: Ack::Refused(Refusal::BadSize),
+        };
+    }
+    LentAck {
+        ends: new_ends(c),
+        answer: Ack::Done,
+    }
+}
+
+// INNER CALLS: the tokens are lent, and the caller knows the queue to be sound
+
+pub fn push_in(tokens: &mut [u32; 64], mut ends: Ends, token: Token) -> LentTold
+    requires { ⌜ Sound (lent tokens ends) ⌝ }
+    ensures { λ r. ⌜ DoesLent tokens ends (r .ends) (toldReply (r .answer)) (λ q. pushStep q (token .0)) ⌝ }
+{
+    let head = ends.head;
+    let next = runqueue::place(ends.c, head + 1);
+    if next == ends.tail {
+        ends.drops = std::num::wrapping_add_u32(ends.drops, 1);
+        return LentTold {
+            ends: ends,
+            answer: Told::Is(false),
+        };
+    }
+    sized(tokens);
+    tokens[head] = token.0;
+    ends.head = next;
+    LentTold {
+        ends: ends,
+        answer: Told::Is(true),
+    }
+}
+
+pub fn pop_in(tokens: &mut [u32; 64], mut ends: Ends) -> LentPopped
+    requires { ⌜ Sound (lent tokens ends) ⌝ }
+    ensures { λ r. ⌜ DoesLent tokens ends (r .ends) (poppedReply (r .answer)) popStep ⌝ }
+{
+    let tail = ends.tail;
+    if tail == ends.head {
+        return LentPopped {
+            ends: ends,
+            answer: Popped::Nothing,
+        };
+    }
+    let token = Token(tokens[tail]);
+    ends.tail = runqueue::place(ends.c, tail + 1);
+    LentPopped {
+        ends: ends,
+        answer: Popped::Token(token),
+    }
+}
+
+// CALLS OF THE PRODUCT ON LENT TOKENS: the test, then 1 or the inner call. Some ask for the ends alone, whatever the tokens are.
+
+pub fn sound_at(ends: Ends) -> bool
+    ensures { λ r. ⌜ Tells r (Fit (ends .c) (ends .head) (ends .tail)) ⌝ }
+{
+    is_fit(ends.c, ends.head, ends.tail)
+}
+
+pub fn drops_at(ends: Ends) -> Count
+    ensures { λ r. ⌜ AnswersAny ends (countReply r) dropsReply ⌝ }
+{
+    if !sound_at(ends) {
+        return Count::Refused(Refusal::BadTable);
+    }
+    Count::Is(ends.drops as u64)
+}
+
+pub fn is_empty_at(ends: Ends) -> Told
+    ensures { λ r. ⌜ AnswersAny ends (toldReply r) emptyReply ⌝ }
+{
+    if !sound_at(ends) {
+        return Told::Refused(Refusal::BadTable);
+    }
+    Told::Is(ends.head == ends.tail)
+}
+
+pub fn push_at(tokens: &mut [u32; 64], ends: Ends, token: Token) -> LentTold
+    ensures { λ r. ⌜ MeetsLent tokens ends (r .ends) (toldReply (r .answer)) (λ q. pushStep q (token .0)) ⌝ }
+{
+    if !sound_at(ends) {
+        return LentTold {
+            ends: ends,
+            answer: Told::Refused(Refusal::BadTable),
+        };
+    }
+    push_in(tokens, ends, token)
+}
+
+pub fn pop_at(tokens: &mut [u32; 64], ends: Ends) -> LentPopped
+    ensures { λ r. ⌜ MeetsLent tokens ends (r .ends) (poppedReply (r .answer)) popStep ⌝ }
+{
+    if !sound_at(ends) {
+        return LentPopped {
+            ends: ends,
+            answer: Popped::Refused(Refusal::BadTable),
+        };
+    }
+    pop_in(tokens, ends)
+}
+
 impl WakeQueue {
     // An empty queue; beside BadSize an empty queue of two places.
     pub fn new(c: usize) -> Made
         ensures { λ r. ⌜ Makes wakes (r .queue) (ackReply (r .answer)) (newStep c) ⌝ }
     {
-        if !is_listed(c) {
-            return Made {
-                queue: WakeQueue::empty(2),
-                answer: Ack::Refused(Refusal::BadSize),
-            };
-        }
+        let mut tokens = [0u32; 64];
+        let made = new_at(&mut tokens, c);
+        let ends = made.ends;
+        let answer = made.answer;
         Made {
-            queue: WakeQueue::empty(c),
-            answer: Ack::Done,
-        }
-    }
-
-    fn empty(c: usize) -> WakeQueue
-        ensures { λ r. ⌜ (r .c ≡ c) × (r .head ≡ 0) × (r .tail ≡ 0) × (r .drops ≡ 0) ⌝ }
-    {
-        WakeQueue {
-            c: c,
-            head: 0,
-            tail: 0,
-            drops: 0,
-            tokens: [0; 64],
+            queue: WakeQueue {
+                ends: ends,
+                tokens: tokens,
+            },
+            answer: answer,
         }
     }
 
     pub fn sound(self) -> bool
         ensures { λ r. ⌜ Tells r (Sound self) ⌝ }
     {
-        is_fit(self.c, self.head, self.tail)
+        sound_at(self.ends)
     }
 
     // How many pushes found the queue full.
     pub fn drops(self) -> Count
         ensures { λ r. ⌜ Answers wakes self (countReply r) (dropsReply (view self)) ⌝ }
     {
-        if !is_fit(self.c, self.head, self.tail) {
-            return Count::Refused(Refusal::BadTable);
-        }
-        Count::Is(self.drops as u64)
+        drops_at(self.ends)
     }
 
     pub fn is_empty(self) -> Told
         ensures { λ r. ⌜ Answers wakes self (toldReply r) (emptyReply (view self)) ⌝ }
     {
-        if !is_fit(self.c, self.head, self.tail) {
-            return Told::Refused(Refusal::BadTable);
-        }
-        Told::Is(self.head == self.tail)
+        is_empty_at(self.ends)
     }
 
     // Puts a token behind the others; a queue that is full drops it and counts the drop.
     pub fn push(self, token: Token) -> Pushed
         ensures { λ r. ⌜ Meets wakes self (r .queue) (toldReply (r .answer)) (pushStep (view self) (token .0)) ⌝ }
     {
-        if !is_fit(self.c, self.head, self.tail) {
-            return Pushed {
-                queue: self,
-                answer: Told::Refused(Refusal::BadTable),
-            };
-        }
-        self.push_in(token)
-    }
-
-    pub fn push_in(mut self, token: Token) -> Pushed
-        requires { ⌜ Sound self ⌝ }
-        ensures { λ r. ⌜ Does wakes self (r .queue) (toldReply (r .answer)) (pushStep (view self) (token .0)) ⌝ }
-    {
-        let head = self.head;
-        let next = runqueue::place(self.c, head + 1);
-        if next == self.tail {
-            self.drops = std::num::wrapping_add_u32(self.drops, 1);
-            return Pushed {
-                queue: self,
-                answer: Told::Is(false),
-            };
-        }
-        self.tokens[head] = token.0;
-        self.head = next;
+        let mut tokens = self.tokens;
+        let done = push_at(&mut tokens, self.ends, token);
+        let ends = done.ends;
+        let answer = done.answer;
         Pushed {
-            queue: self,
-            answer: Told::Is(true),
+            queue: WakeQueue {
+                ends: ends,
+                tokens: tokens,
+            },
+            answer: answer,
         }
     }
 
@@ -160,31 +273,16 @@ impl WakeQueue {
     pub fn pop(self) -> Taken
         ensures { λ r. ⌜ Meets wakes self (r .queue) (poppedReply (r .answer)) (popStep (view self)) ⌝ }
     {
-        if !is_fit(self.c, self.head, self.tail) {
-            return Taken {
-                queue: self,
-                answer: Popped::Refused(Refusal::BadTable),
-            };
-        }
-        self.pop_in()
-    }
-
-    pub fn pop_in(mut self) -> Taken
-        requires { ⌜ Sound self ⌝ }
-        ensures { λ r. ⌜ Does wakes self (r .queue) (poppedReply (r .answer)) (popStep (view self)) ⌝ }
-    {
-        let tail = self.tail;
-        if tail == self.head {
-            return Taken {
-                queue: self,
-                answer: Popped::Nothing,
-            };
-        }
-        let token = Token(self.tokens[tail]);
-        self.tail = runqueue::place(self.c, tail + 1);
+        let mut tokens = self.tokens;
+        let done = pop_at(&mut tokens, self.ends);
+        let ends = done.ends;
+        let answer = done.answer;
         Taken {
-            queue: self,
-            answer: Popped::Token(token),
+            queue: WakeQueue {
+                ends: ends,
+                tokens: tokens,
+            },
+            answer: answer,
         }
     }
 }

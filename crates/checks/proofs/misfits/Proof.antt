@@ -1,6 +1,5 @@
 -- `misfits` counts the tests that a slot fails.
 use borrow.Author.Needs.{needs}
-use native.Mathlib.Omega.{arith}
 use Rattle.checks.proofs.Returns.{misfits-sum}
 use Rattle.checks.proofs.misfits.Statement.{statement}
 use Rattle.checks.proofs.misfits.Tie as tie
@@ -12,21 +11,28 @@ flag-requires-2 : tie.Need-flag-requires-2
 flag-requires-2 c κs = search needs
 
 add-result : tie.Need-add-result
-add-result c = omega arith
-
-note-for-requires : tie.Need-note-for-requires
-note-for-requires c κs = search needs
+add-result c = search needs
 
 flag-requires-3 : tie.Need-flag-requires-3
 flag-requires-3 c κs = search needs
 
 add-result-2 : tie.Need-add-result-2
-add-result-2 c = omega arith
+add-result-2 c = search needs
+
+note-for-requires : tie.Need-note-for-requires
+note-for-requires c κs = search needs
+
+flag-requires-4 : tie.Need-flag-requires-4
+flag-requires-4 c κs = search needs
+
+add-result-3 : tie.Need-add-result-3
+add-result-3 c = search needs
 
 returns : tie.Need-returns
 returns c =
-    let b = c .before .before in
-    misfits-sum (c .before .note-for .ensures) (b .before .flag .ensures .0) (b .flag2 .ensures .0) (c .flag3 .ensures .0)
+    let n = c .before in
+    let k = n .before in
+    misfits-sum (n .note-for .ensures) (k .before .before .flag .ensures .0) (k .before .flag2 .ensures .0) (k .flag3 .ensures .0) (c .flag4 .ensures .0)
 
 pub misfits-spec : {M : Type 1} → statement M
 misfits-spec =
@@ -35,7 +41,9 @@ misfits-spec =
     flag-requires
     flag-requires-2
     add-result
-    note-for-requires
     flag-requires-3
     add-result-2
+    note-for-requires
+    flag-requires-4
+    add-result-3
     returns)

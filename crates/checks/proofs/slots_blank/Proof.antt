@@ -3,7 +3,7 @@ use borrow.Author.Needs.{needs}
 use borrow.Author.Count.{below-more}
 use Prim.Native.Nat.{ℕ, _-_, _≤_, _<_}
 use native.Mathlib.Omega.{arith}
-use Rattle.lists.proofs.Basics.{tells-yes, tells-no, not-both}
+use Rattle.lists.proofs.Basics.{tells-yes, tells-no}
 use Rattle.checks.specs.Parts.{SlotBlank}
 use Rattle.checks.proofs.slots_blank.Statement.{statement}
 use Rattle.checks.proofs.slots_blank.Tie as tie
@@ -42,7 +42,7 @@ element-copy-out-if4 : tie.Need-element-copy-out-if4 Inv-loop μ-loop
 element-copy-out-if4 c = search needs
 
 returns-4 : tie.Need-returns-4 Inv-loop μ-loop
-returns-4 c = let b = c .before .before .before .before .before .before .before .before in tells-no (λ f. not-both (c .if4 .taken) (f (b .before .loop .i) (b .loop-test .taken) .mark))
+returns-4 c = let b = c .before .before .before .before .before .before .before .before in tells-no (λ f. c .if4 .taken (f (b .before .loop .i) (b .loop-test .taken) .mark))
 
 add-i : tie.Need-add-i Inv-loop μ-loop
 add-i c = search needs

@@ -3,7 +3,6 @@ use Prim.Native.Nat.{_-_}
 use mathlib.Core.Path.{_≡_, ap, _∙_}
 use mathlib.Core.Option.{none}
 use native.Mathlib.Omega.{arith}
-use borrow.Author.Tests.{not-true, not-false}
 use lib.ListN.{length}
 use Rattle.lists.specs.Entries.{free}
 use Rattle.lists.proofs.SearchLaws.{Passed, passed-none, passed-more, passed-hit, passed-all}
@@ -33,7 +32,7 @@ array-copy-out-e c = omega arith
 returns : tie.Need-returns Inv-loop μ-loop
 returns c =
     passed-hit _ _ _ none (c .before .before .before .before .loop .inv) (omega (arith, long (c .before .before .before .before .before)))
-    (ap free (waits-dead (c .before .before .before .before .before .args .t1) _ (not-true _ (c .if1 .taken))))
+    (ap free (waits-dead (c .before .before .before .before .before .args .t1) _ (c .if1 .taken)))
 
 add-i : tie.Need-add-i Inv-loop μ-loop
 add-i c = omega arith
@@ -44,7 +43,7 @@ loop-less c = omega arith
 loop-again : tie.Need-loop-again Inv-loop μ-loop
 loop-again c =
     passed-more _ _ _ none (c .before .before .before .before .loop .inv) (omega (arith, long (c .before .before .before .before .before)))
-    (ap free (waits-live (c .before .before .before .before .before .args .t1) _ (not-false _ (c .if1 .left))))
+    (ap free (waits-live (c .before .before .before .before .before .args .t1) _ (c .if1 .left)))
 
 returns-2 : tie.Need-returns-2 Inv-loop μ-loop
 returns-2 c = passed-all _ _ _ (c .before .loop .inv) (omega (arith, long (c .before .before)))

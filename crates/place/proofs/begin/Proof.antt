@@ -3,12 +3,6 @@ use borrow.Author.Needs.{needs}
 use Rattle.output.proofs.Nexts.{begun}
 use Rattle.place.proofs.begin.Statement.{statement}
 use Rattle.place.proofs.begin.Tie as tie
-use Rattle.place.proofs.begin.Reads as reads
-use Rattle.place.proofs.begin.Lts as lts
-use Rattle.irqwait.proofs.WaitTable.new.Reads as WaitTable-new-reads
-use Rattle.memory.proofs.Tasks.new.Reads as Tasks-new-reads
-use Rattle.parktime.proofs.Table.new.Reads as Table-new-reads
-use Rattle.wake.proofs.WakeQueue.new.Reads as WakeQueue-new-reads
 
 new-requires : tie.Need-new-requires
 new-requires c κs = search needs

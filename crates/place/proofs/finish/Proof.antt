@@ -6,13 +6,6 @@ use Rattle.place.specs.Here.{tablesOf}
 use Rattle.place.proofs.Laws.{field-short, end-is}
 use Rattle.place.proofs.finish.Statement.{statement}
 use Rattle.place.proofs.finish.Tie as tie
-use Rattle.place.proofs.finish.Reads as reads
-use Rattle.place.proofs.finish.Lts as lts
-use Rattle.print.proofs.text.Reads as text-reads
-use Rattle.scans.proofs.occupied.Reads as occupied-reads
-use Rattle.place.proofs.agents.Reads as agents-reads
-use Rattle.place.proofs.spaced.Reads as spaced-reads
-use Rattle.place.proofs.wide.Reads as wide-reads
 
 wide-requires : tie.Need-wide-requires
 wide-requires c κs = search needs
@@ -37,7 +30,7 @@ cast-spaced c = search needs
 
 spaced-requires-2 : tie.Need-spaced-requires-2
 spaced-requires-2 c κs =
-    let s = c .before .before .before .before .before .before .before .before .before .before .before .before .before .before .before .before .before in
+    let s = c .before .before .before .before .before .before .before .before .before .before .before .before .before .before .before .before .before .before in
     let w0 = c .before .before .before .before .before .before .before .text .ensures in
     let w1 = c .before .before .before .spaced .ensures in
     omega (arith, s .pre .0, w0 .end, w0 .size, w1 .end, w1 .size, field-short (s .args .place .number))
@@ -47,7 +40,7 @@ cast-spaced-2 c = search needs
 
 spaced-requires-3 : tie.Need-spaced-requires-3
 spaced-requires-3 c κs =
-    let s = c .before .before .before .before .before .before .before .before .before .before .before .before .before .before .before .before .before .before .before .before .before in
+    let s = c .before .before .before .before .before .before .before .before .before .before .before .before .before .before .before .before .before .before .before .before .before .before in
     let w0 = c .before .before .before .before .before .before .before .before .before .before .before .text .ensures in
     let w1 = c .before .before .before .before .before .before .before .spaced .ensures in
     let w2 = c .before .before .before .spaced2 .ensures in
@@ -55,7 +48,7 @@ spaced-requires-3 c κs =
 
 spaced-requires-4 : tie.Need-spaced-requires-4
 spaced-requires-4 c κs =
-    let s = c .before .before .before .before .before .before .before .before .before .before .before .before .before .before .before .before .before .before .before .before .before .before .before .before .before in
+    let s = c .before .before .before .before .before .before .before .before .before .before .before .before .before .before .before .before .before .before .before .before .before .before .before .before .before .before in
     let w0 = c .before .before .before .before .before .before .before .before .before .before .before .before .before .before .before .text .ensures in
     let w1 = c .before .before .before .before .before .before .before .before .before .before .before .spaced .ensures in
     let w2 = c .before .before .before .before .before .before .before .spaced2 .ensures in
@@ -67,7 +60,7 @@ slice-aggregate-text-2 c = search needs
 
 text-requires-2 : tie.Need-text-requires-2
 text-requires-2 c κs =
-    let s = c .before .before .before .before .before .before .before .before .before .before .before .before .before .before .before .before .before .before .before .before .before .before .before .before .before .before .before .before .before .before in
+    let s = c .before .before .before .before .before .before .before .before .before .before .before .before .before .before .before .before .before .before .before .before .before .before .before .before .before .before .before .before .before .before .before in
     let w0 = c .before .before .before .before .before .before .before .before .before .before .before .before .before .before .before .before .before .before .before .before .text .ensures in
     let w1 = c .before .before .before .before .before .before .before .before .before .before .before .before .before .before .before .before .spaced .ensures in
     let w2 = c .before .before .before .before .before .before .before .before .before .before .before .before .spaced2 .ensures in
@@ -80,7 +73,7 @@ same-length c = search needs
 
 returns : tie.Need-returns
 returns c =
-    let t = tablesOf (c .before .before .before .before .before .before .before .before .before .before .before .before .before .before .before .before .before .before .before .before .before .before .before .before .before .before .before .before .before .before .before .before .before .args .place) in
+    let t = tablesOf (c .before .before .before .before .before .before .before .before .before .before .before .before .before .before .before .before .before .before .before .before .before .before .before .before .before .before .before .before .before .before .before .before .before .before .args .place) in
     wrote-as (end-is t _ _ _ _ (c .before .before .before .before .before .before .before .before .before .before .before .before .before .before .before .before .before .before .before .before .before .before .before .before .before .before .before .occupied .ensures) (c .before .before .before .before .before .before .before .before .before .before .before .before .before .before .before .before .before .before .before .before .before .before .before .before .before .before .agents .ensures) (c .before .before .before .before .before .before .before .before .before .before .before .before .before .before .before .before .before .before .before .before .before .before .before .before .before .before .before .before .before .before .wide .ensures))
     (then (then (then (then (then (c .before .before .before .before .before .before .before .before .before .before .before .before .before .before .before .before .before .before .before .before .before .before .before .text .ensures) (c .before .before .before .before .before .before .before .before .before .before .before .before .before .before .before .before .before .before .before .spaced .ensures)) (c .before .before .before .before .before .before .before .before .before .before .before .before .before .before .before .spaced2 .ensures)) (c .before .before .before .before .before .before .before .before .before .before .before .spaced3 .ensures)) (c .before .before .before .before .before .before .before .spaced4 .ensures)) (c .before .before .text2 .ensures))
 

@@ -3,12 +3,6 @@ use borrow.Author.Needs.{needs}
 use Rattle.output.proofs.Nexts.{next-feed, next-last}
 use Rattle.place.proofs.next_line.Statement.{statement}
 use Rattle.place.proofs.next_line.Tie as tie
-use Rattle.place.proofs.next_line.Reads as reads
-use Rattle.place.proofs.next_line.Lts as lts
-use Rattle.lines.proofs.read.Reads as read-reads
-use Rattle.place.proofs.tail.Reads as tail-reads
-use Rattle.words.proofs.head.Reads as head-reads
-use Rattle.words.proofs.until.Reads as until-reads
 
 tail-requires : tie.Need-tail-requires
 tail-requires c κs = search needs

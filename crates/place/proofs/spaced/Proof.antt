@@ -4,10 +4,6 @@ use borrow.Author.Needs.{needs}
 use Rattle.text.proofs.PrintLaws.{decimal-short, then}
 use Rattle.place.proofs.spaced.Statement.{statement}
 use Rattle.place.proofs.spaced.Tie as tie
-use Rattle.place.proofs.spaced.Reads as reads
-use Rattle.place.proofs.spaced.Lts as lts
-use Rattle.print.proofs.decimal.Reads as decimal-reads
-use Rattle.print.proofs.text.Reads as text-reads
 
 slice-aggregate-text : tie.Need-slice-aggregate-text
 slice-aggregate-text c = search needs

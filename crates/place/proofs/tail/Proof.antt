@@ -6,8 +6,6 @@ use lib.ListN.{length, drop, length-drop}
 use lib.Seq.{take-all}
 use Rattle.place.proofs.tail.Statement.{statement}
 use Rattle.place.proofs.tail.Tie as tie
-use Rattle.place.proofs.tail.Reads as reads
-use Rattle.place.proofs.tail.Lts as lts
 
 sub-result : tie.Need-sub-result
 sub-result c = search needs

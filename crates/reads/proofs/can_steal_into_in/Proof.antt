@@ -5,13 +5,14 @@ use native.Mathlib.Omega.{arith}
 use mathlib.Core.Path.{refl, sym, _∙_}
 use borrow.Author.Needs.{needs}
 use Prim.Native.Nat.{_-_}
+use Rattle.memory.specs.Lent.{whole}
 use Rattle.reads.proofs.Walks.{Walked, far, busy, peer-in, walk-start, walk-on, walk-found, walk-none}
 
 abbrev Inv-loop : tie.InvT-loop
-Inv-loop thief t c peer n idles len head j₀ j = Walked t peer j
+Inv-loop states epochs homes marks ring-slots ring-epochs thief s c peer idles len head j₀ j = Walked (whole states epochs homes marks ring-slots ring-epochs s) peer j
 
 abbrev μ-loop : tie.MeasureT-loop
-μ-loop thief t c peer n idles len head j₀ j = len - j
+μ-loop states epochs homes marks ring-slots ring-epochs thief s c peer idles len head j₀ j = len - j
 
 returns : tie.Need-returns Inv-loop μ-loop
 returns c = far _ (c .before .pre) _ (c .if1 .taken)
@@ -49,32 +50,32 @@ add-spot c = let s = c .before .before .before .before .before .before .before .
 spot-requires : tie.Need-spot-requires Inv-loop μ-loop
 spot-requires c κs = let s = c .before .before .before .before .before .before .before .before in let hc = c .before .before .before .before .before .before .before .if1 .left in let z = c .before .before .before .before .before .if2 .left in let r = s .pre .rep .rings _ (peer-in _ (s .pre) _ hc z _ refl) in (peer-in _ (s .pre) _ hc z _ refl, (s .pre .rep .most, omega (arith, r, c .loop-test .taken)))
 
-mul-t23 : tie.Need-mul-t23 Inv-loop μ-loop
-mul-t23 c = search needs
+mul-t28 : tie.Need-mul-t28 Inv-loop μ-loop
+mul-t28 c = search needs
 
-element-copy-out-t26 : tie.Need-element-copy-out-t26 Inv-loop μ-loop
-element-copy-out-t26 c = search needs
+element-copy-out-t32 : tie.Need-element-copy-out-t32 Inv-loop μ-loop
+element-copy-out-t32 c = search needs
 
-mul-t27 : tie.Need-mul-t27 Inv-loop μ-loop
-mul-t27 c = search needs
+mul-t29 : tie.Need-mul-t29 Inv-loop μ-loop
+mul-t29 c = search needs
 
-element-copy-out-t30 : tie.Need-element-copy-out-t30 Inv-loop μ-loop
-element-copy-out-t30 c = search needs
+element-copy-out-t35 : tie.Need-element-copy-out-t35 Inv-loop μ-loop
+element-copy-out-t35 c = search needs
 
 stealeable-requires : tie.Need-stealeable-requires Inv-loop μ-loop
-stealeable-requires c κs = c .before .before .before .before .before .before .before .before .before .before .before .before .before .before .pre .rep .most
+stealeable-requires c κs = c .before .before .before .before .before .before .before .before .before .before .before .pre .rep .most
 
 returns-3 : tie.Need-returns-3 Inv-loop μ-loop
-returns-3 c = let s = c .before .before .before .before .before .before .before .before .before .before .before .before .before .before .before .before in let hc = c .before .before .before .before .before .before .before .before .before .before .before .before .before .before .before .if1 .left in let z = c .before .before .before .before .before .before .before .before .before .before .before .before .before .if2 .left in walk-found _ (s .pre) _ hc z _ refl _ _ (c .before .before .before .before .before .before .before .before .before .loop .inv) (c .before .before .before .before .before .before .before .before .loop-test .taken) (c .before .before .before .before .before .before .before .spot .ensures .0) (sym (c .before .stealeable .ensures) ∙ c .if3 .taken)
+returns-3 c = let s = c .before .before .before .before .before .before .before .before .before .before .before .before .before in let hc = c .before .before .before .before .before .before .before .before .before .before .before .before .if1 .left in let z = c .before .before .before .before .before .before .before .before .before .before .if2 .left in walk-found _ (s .pre) _ hc z _ refl _ _ (c .before .before .before .before .before .before .loop .inv) (c .before .before .before .before .before .loop-test .taken) (c .before .before .before .before .spot .ensures .0) (sym (c .before .stealeable .ensures) ∙ c .if3 .taken)
 
 add-j : tie.Need-add-j Inv-loop μ-loop
-add-j c = let s = c .before .before .before .before .before .before .before .before .before .before .before .before .before .before .before .before in let hc = c .before .before .before .before .before .before .before .before .before .before .before .before .before .before .before .if1 .left in let z = c .before .before .before .before .before .before .before .before .before .before .before .before .before .if2 .left in let r = s .pre .rep .rings _ (peer-in _ (s .pre) _ hc z _ refl) in omega (arith, r, s .pre .rep .most, c .before .before .before .before .before .before .before .before .loop-test .taken)
+add-j c = let s = c .before .before .before .before .before .before .before .before .before .before .before .before .before in let hc = c .before .before .before .before .before .before .before .before .before .before .before .before .if1 .left in let z = c .before .before .before .before .before .before .before .before .before .before .if2 .left in let r = s .pre .rep .rings _ (peer-in _ (s .pre) _ hc z _ refl) in omega (arith, r, s .pre .rep .most, c .before .before .before .before .before .loop-test .taken)
 
 loop-less : tie.Need-loop-less Inv-loop μ-loop
 loop-less c = search needs
 
 loop-again : tie.Need-loop-again Inv-loop μ-loop
-loop-again c = let s = c .before .before .before .before .before .before .before .before .before .before .before .before .before .before .before .before in let hc = c .before .before .before .before .before .before .before .before .before .before .before .before .before .before .before .if1 .left in let z = c .before .before .before .before .before .before .before .before .before .before .before .before .before .if2 .left in walk-on _ (s .pre) _ hc z _ refl _ _ (c .before .before .before .before .before .before .before .before .before .loop .inv) (c .before .before .before .before .before .before .before .before .loop-test .taken) (c .before .before .before .before .before .before .before .spot .ensures .0) (sym (c .before .stealeable .ensures) ∙ c .if3 .left)
+loop-again c = let s = c .before .before .before .before .before .before .before .before .before .before .before .before .before in let hc = c .before .before .before .before .before .before .before .before .before .before .before .before .if1 .left in let z = c .before .before .before .before .before .before .before .before .before .before .if2 .left in walk-on _ (s .pre) _ hc z _ refl _ _ (c .before .before .before .before .before .before .loop .inv) (c .before .before .before .before .before .loop-test .taken) (c .before .before .before .before .spot .ensures .0) (sym (c .before .stealeable .ensures) ∙ c .if3 .left)
 
 returns-4 : tie.Need-returns-4 Inv-loop μ-loop
 returns-4 c = let s = c .before .before .before .before .before .before .before .before in let hc = c .before .before .before .before .before .before .before .if1 .left in let z = c .before .before .before .before .before .if2 .left in walk-none _ (s .pre) _ hc z _ refl _ (c .before .loop .inv) (c .loop-test .left)
@@ -97,10 +98,10 @@ can-steal-into-in-spec =
     loop-holds
     add-spot
     spot-requires
-    mul-t23
-    element-copy-out-t26
-    mul-t27
-    element-copy-out-t30
+    mul-t28
+    element-copy-out-t32
+    mul-t29
+    element-copy-out-t35
     stealeable-requires
     returns-3
     add-j

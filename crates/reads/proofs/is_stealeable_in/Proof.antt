@@ -8,7 +8,7 @@ stealeable-requires : tie.Need-stealeable-requires
 stealeable-requires c κs = search needs
 
 returns : tie.Need-returns
-returns c = stealeable-is _ (c .before .before .before .before .before .pre) _ _ (c .stealeable .ensures)
+returns c = stealeable-is _ (c .before .before .pre) _ _ (c .stealeable .ensures)
 
 pub is-stealeable-in-spec : {M : Type 1} → statement M
 is-stealeable-in-spec = tie.close (tie.spec stealeable-requires returns)

@@ -1,7 +1,6 @@
 -- By where the lowest Empty slot lies, and whether it is the parked one.
 use native.Mathlib.Omega.{arith}
 use borrow.Author.Needs.{needs}
-use borrow.Author.Tests.{not-true, not-false}
 use Rattle.scans.proofs.Laws.{free-past, free-unparked, free-other, free-behind}
 use Rattle.scans.proofs.free_slot.Statement.{statement}
 use Rattle.scans.proofs.free_slot.Tie as tie
@@ -13,7 +12,7 @@ returns : tie.Need-returns
 returns c = let e = c .before .empty-from .ensures in (free-past _ _ _ _ _ e (c .if1 .taken), e .most)
 
 returns-2 : tie.Need-returns-2
-returns-2 c = let e = c .before .before .empty-from .ensures in (free-unparked _ _ _ _ _ e (c .before .if1 .left) (not-true _ (c .if2 .taken)), e .most)
+returns-2 c = let e = c .before .before .empty-from .ensures in (free-unparked _ _ _ _ _ e (c .before .if1 .left) (c .if2 .taken), e .most)
 
 returns-3 : tie.Need-returns-3
 returns-3 c = let e = c .before .before .before .empty-from .ensures in (free-other _ _ _ _ _ e (c .before .before .if1 .left) (c .if3 .taken), e .most)
@@ -29,7 +28,7 @@ returns-4 c =
     let d = c .before .before in
     let e = d .before .before .empty-from .ensures in
     let r = c .empty-from2 .ensures in
-    (free-behind _ _ _ _ _ e (d .before .if1 .left) _ (not-false _ (d .if2 .left)) (c .before .if3 .left) r, r .most)
+    (free-behind _ _ _ _ _ e (d .before .if1 .left) _ (d .if2 .left) (c .before .if3 .left) r, r .most)
 
 pub free-slot-spec : {M : Type 1} → statement M
 free-slot-spec =

@@ -19,13 +19,13 @@ element-copy-out-if2 : tie.Need-element-copy-out-if2
 element-copy-out-if2 c = let a = c .before .before .before .args in let h = known-slot (a .epochs .now) (a .marks .now) (a .n) (a .idles) (a .id) (sym (c .before .before .known .ensures) ∙ not-false _ (c .before .if1 .left)) in omega arith
 
 returns-2 : tie.Need-returns-2
-returns-2 c = let a = c .before .before .before .before .before .args in loot-unmarked (a .epochs .now) (a .marks .now) (a .n) (a .idles) (a .id) (sym (c .before .before .before .before .known .ensures) ∙ not-false _ (c .before .before .before .if1 .left)) (not-true _ (c .if2 .taken))
+returns-2 c = let a = c .before .before .before .before .before .args in loot-unmarked (a .epochs .now) (a .marks .now) (a .n) (a .idles) (a .id) (sym (c .before .before .before .before .known .ensures) ∙ not-false _ (c .before .before .before .if1 .left)) (c .if2 .taken)
 
 is-idle-requires : tie.Need-is-idle-requires
 is-idle-requires c κs = search needs
 
 returns-3 : tie.Need-returns-3
-returns-3 c = let a = c .before .before .before .before .before .before .args in loot-is (a .epochs .now) (a .marks .now) (a .n) (a .idles) (a .id) _ (sym (c .before .before .before .before .before .known .ensures) ∙ not-false _ (c .before .before .before .before .if1 .left)) (not-false _ (c .before .if2 .left)) (c .is-idle .ensures)
+returns-3 c = let a = c .before .before .before .before .before .before .args in loot-is (a .epochs .now) (a .marks .now) (a .n) (a .idles) (a .id) _ (sym (c .before .before .before .before .before .known .ensures) ∙ not-false _ (c .before .before .before .before .if1 .left)) (c .before .if2 .left) (c .is-idle .ensures)
 
 pub stealeable-spec : {M : Type 1} → statement M
 stealeable-spec =

@@ -17,6 +17,8 @@ use Rattle.model.specs.Switch.{switchStep, pulls}
 use Rattle.memory.specs.declared.Tasks.{Tasks}
 use Rattle.memory.specs.View.{view, headOf, lenOf, Rep}
 use Rattle.memory.proofs.RingStores.{ringIn}
+use Rattle.memory.specs.Lent.{whole}
+use Rattle.memory.proofs.Wholes.{same-whole}
 use Rattle.steps.specs.Switching.{Ready, Left}
 use Rattle.steps.proofs.Common.{not-started, is-on}
 use Rattle.steps.proofs.Switches.{switch-above, switch-off, cpu-zero, cpu-on, pulled-busy, pulled-tried, idle-stays, ready-idle, ready-task}
@@ -25,8 +27,21 @@ use Rattle.switch.proofs.Laws.{Begun, Entered, to-tail, no-exit, from-l
 
 -- THE CALL: what is asked, and that the CPU is up
 
+abbrev start : tie.Start → Tasks
+start s = whole (s .args .states .now) (s .args .epochs .now) (s .args .homes .now) (s .args .marks .now) (s .args .ring-slots .now) (s .args .ring-epochs .now) (s .args .t7)
+
+-- the table after the steal, as a task leaves, and when it has left
+abbrev at6 : tie.Joined6 → Tasks
+at6 c = whole (c .if6 .states) (c .if6 .epochs) (c .if6 .homes) (c .if6 .marks) (c .if6 .ring-slots) (c .if6 .ring-epochs) (c .if6 .s)
+
+abbrev at5 : tie.Joined5 → Tasks
+at5 c = whole (c .if5 .states) (c .if5 .epochs) (c .if5 .homes) (c .if5 .marks) (c .if5 .ring-slots) (c .if5 .ring-epochs) (c .if5 .s)
+
+abbrev out : tie.At-match-came → Tasks
+out c = whole (c .match .states) (c .match .epochs) (c .before .before .if5 .homes) (c .before .before .if5 .marks) (c .match .ring-slots) (c .match .ring-epochs) (c .match .s)
+
 abbrev table : tie.Joined3 → Tasks
-table c = c .before .before .before .before .before .args .t1
+table c = start (c .before .before .before .before .before)
 
 abbrev cpuOf : tie.Joined3 → ℕ
 cpuOf c = c .before .before .before .before .before .args .cpu
@@ -35,7 +50,7 @@ abbrev wants : tie.Joined3 → plain.Kind
 wants c = kindOf (c .before .before .before .before .before .args .kind)
 
 abbrev from : tie.Joined3 → TaskId
-from c = getD (table c .currents) (cpuOf c) idle
+from c = getD (table c .small .currents) (cpuOf c) idle
 
 begun : (c : tie.Joined3) → Begun (table c) (cpuOf c)
 begun c =
@@ -51,10 +66,10 @@ begun c =
 
 -- THE STEAL
 
-rests : (c : tie.Then5) → sameId (from (c .before .before .before)) (getD (table (c .before .before .before) .idles) (cpuOf (c .before .before .before)) idle) ≡ true
+rests : (c : tie.Then5) → sameId (from (c .before .before .before)) (getD (table (c .before .before .before) .small .idles) (cpuOf (c .before .before .before)) idle) ≡ true
 rests c = sym (c .before .same2 .ensures) ∙ c .if5 .taken
 
-pulled : (c : tie.Joined6) → Rep (c .if6 .t) × (view (c .if6 .t) ≡ pulls (view (table (c .before .before .before .before .before))) (cpuOf (c .before .before .before .before .before)))
+pulled : (c : tie.Joined6) → Rep (at6 c) × (view (at6 c) ≡ pulls (view (table (c .before .before .before .before .before))) (cpuOf (c .before .before .before .before .before)))
 pulled c =
     let p = c .before .before .before .before .before in
     let y = begun p in
@@ -62,11 +77,11 @@ pulled c =
     let cpu = cpuOf p in
     let k = wants p in
     ⊎-elim
-    (λ a. (subst Rep (sym (a .3)) (a .1 .ensures .rep), ap view (a .3) ∙ pulled-tried t cpu k (y .sound) (y .on) (y .low) (y .up) (rests (c .before .before)) (a .0 .taken) _ _ (a .1 .ensures)))
-    (λ a. (subst Rep (sym (a .1)) (y .sound .rep), ap view (a .1) ∙ pulled-busy t cpu k (y .sound) (y .on) (y .low) (y .up) (a .0 .left)))
+    (λ a. let e = same-whole (a .9) (a .10) (a .11) (a .12) (a .13) (a .14) (a .15) in (subst Rep (sym e) (a .7 .ensures .rep), ap view e ∙ pulled-tried t cpu k (y .sound) (y .on) (y .low) (y .up) (rests (c .before .before)) (a .0 .taken) _ _ (a .7 .ensures)))
+    (λ a. let e = same-whole (a .1) (a .2) (a .3) (a .4) (a .5) (a .6) (a .7) in (subst Rep (sym e) (y .sound .rep), ap view e ∙ pulled-busy t cpu k (y .sound) (y .on) (y .low) (y .up) (a .0 .left)))
     (c .if6 .came)
 
-ready : (c : tie.Joined5) → Ready (table (c .before .before .before)) (cpuOf (c .before .before .before)) (wants (c .before .before .before)) (c .if5 .t)
+ready : (c : tie.Joined5) → Ready (table (c .before .before .before)) (cpuOf (c .before .before .before)) (wants (c .before .before .before)) (at5 c)
 ready c =
     let p = c .before .before .before in
     let y = begun p in
@@ -74,8 +89,8 @@ ready c =
     let cpu = cpuOf p in
     let k = wants p in
     ⊎-elim
-    (λ a. let j : tie.Joined6 = record { before = record { before = record { before = c .before; if5 = a .0 }; if62 = a .1 }; if6 = a .2 } in subst (λ (u : Tasks). Ready t cpu k u) (sym (a .5)) (ready-idle t cpu k (y .sound) (y .on) (y .low) (y .up) _ (pulled j .0) (pulled j .1) (sym (a .3 .ensures) ∙ not-false _ (a .4 .left))))
-    (λ a. subst (λ (u : Tasks). Ready t cpu k u) (sym (a .1)) (ready-task t cpu k (y .sound) (y .on) (y .low) (y .up) (sym (c .before .same2 .ensures) ∙ a .0 .left)))
+    (λ a. let j : tie.Joined6 = record { before = record { before = record { before = c .before; if5 = a .0 }; if62 = a .1 }; if6 = a .2 } in subst (λ (u : Tasks). Ready t cpu k u) (sym (same-whole (a .5) (a .6) (a .7) (a .8) (a .9) (a .10) (a .11))) (ready-idle t cpu k (y .sound) (y .on) (y .low) (y .up) _ (pulled j .0) (pulled j .1) (sym (a .3 .ensures) ∙ not-false _ (a .4 .left))))
+    (λ a. subst (λ (u : Tasks). Ready t cpu k u) (sym (same-whole (a .1) (a .2) (a .3) (a .4) (a .5) (a .6) (a .7))) (ready-task t cpu k (y .sound) (y .on) (y .low) (y .up) (sym (c .before .same2 .ensures) ∙ a .0 .left)))
     (c .if5 .came)
 
 -- LEAVING
@@ -83,30 +98,30 @@ ready c =
 from-in : (c : tie.Joined5) → from (c .before .before .before) .slot < MOST
 from-in c = from-low (begun (c .before .before .before)) (ready c)
 
-tail-in : (c : tie.Joined5) → headOf (c .if5 .t) (cpuOf (c .before .before .before)) + lenOf (c .if5 .t) (cpuOf (c .before .before .before)) < table (c .before .before .before) .n + table (c .before .before .before) .n
+tail-in : (c : tie.Joined5) → headOf (at5 c) (cpuOf (c .before .before .before)) + lenOf (at5 c) (cpuOf (c .before .before .before)) < table (c .before .before .before) .small .n + table (c .before .before .before) .small .n
 tail-in c = tail-low (begun (c .before .before .before)) (ready c)
 
-left : (c : tie.At-match-came) → Left (c .before .before .if5 .t) (cpuOf (c .before .before .before .before .before)) (wants (c .before .before .before .before .before)) (c .match .t)
+left : (c : tie.At-match-came) → Left (at5 (c .before .before)) (cpuOf (c .before .before .before .before .before)) (wants (c .before .before .before .before .before)) (out c)
 left c =
     let p = c .before .before .before .before .before in
     let y = begun p in
     let r = ready (c .before .before) in
     ⊎-elim
-    (λ a. goes-tail y r (λ m. to-tail (p .before .before .before .before .before .args .kind) (a .0 .keys1) m (cpuOf p)) (c .match .t) 1 (a .3 .result) (lenOf (c .before .before .if5 .t) (cpuOf p) + 1) (a .4) refl (a .3 .ensures .0) refl)
+    (λ a. goes-tail y r (λ m. to-tail (p .before .before .before .before .before .args .kind) (a .0 .keys1) m (cpuOf p)) (out c) 1 (a .3 .result) (lenOf (at5 (c .before .before)) (cpuOf p) + 1) (same-whole (a .4) (a .5) refl refl (a .6) (a .7) (a .8)) refl (a .3 .ensures .0) refl)
     (⊎-elim
-    (λ a. goes-blocked y r (ap kindOf (a .1 .given .1)) (c .match .t) 3 (a .2 .result) (a .3) refl (a .2 .ensures))
-    (λ a. goes-out y r (ap kindOf (a .1 .given .1)) (c .match .t) 0 (a .3 .result) (a .4) refl (a .3 .ensures)))
+    (λ a. goes-blocked y r (ap kindOf (a .1 .given .1)) (out c) 3 (a .2 .result) (same-whole (a .3) (a .4) refl refl (a .5) (a .6) (a .7)) refl (a .2 .ensures))
+    (λ a. goes-out y r (ap kindOf (a .1 .given .1)) (out c) 0 (a .3 .result) (same-whole (a .4) (a .5) refl refl (a .6) (a .7) (a .8)) refl (a .3 .ensures)))
     (c .match .came)
 
 -- THE HEAD
 
-head-in : (c : tie.At-match-came) → headOf (c .match .t) (cpuOf (c .before .before .before .before .before)) < table (c .before .before .before .before .before) .n
+head-in : (c : tie.At-match-came) → headOf (out c) (cpuOf (c .before .before .before .before .before)) < table (c .before .before .before .before .before) .small .n
 head-in c = head-low (begun (c .before .before .before .before .before)) (ready (c .before .before)) (left c)
 
-entered : (c : tie.After-same3) → let v = c .before .before .before .before .before .before .before .before .match .t in Entered (table (c .before .before .before .before .before .before .before .before .before .before .before .before .before)) v (cpuOf (c .before .before .before .before .before .before .before .before .before .before .before .before .before)) (ringIn v (c .before .before .before .before .before .before .spot2 .result)) 2 (c .before .before .place .result) (lenOf v (cpuOf (c .before .before .before .before .before .before .before .before .before .before .before .before .before)) - 1)
+entered : (c : tie.After-same3) → let v = out (c .before .before .before .before .before .before .before .before) in Entered (table (c .before .before .before .before .before .before .before .before .before .before .before .before .before)) v (cpuOf (c .before .before .before .before .before .before .before .before .before .before .before .before .before)) (ringIn v (c .before .before .before .before .before .before .spot2 .result)) 2 (c .before .before .place .result) (lenOf v (cpuOf (c .before .before .before .before .before .before .before .before .before .before .before .before .before)) - 1)
 entered c = record { at = c .before .before .before .before .before .before .spot2 .result; at-is = c .before .before .before .before .before .before .spot2 .ensures .0; entry = refl; state = refl; head = c .before .before .place .ensures .0; len = refl }
 
-other : (c : tie.Else8) → sameId (ringIn (c .before .before .before .before .before .before .before .before .before .match .t) (c .before .before .before .before .before .before .before .spot2 .result)) (from (c .before .before .before .before .before .before .before .before .before .before .before .before .before .before)) ≡ false
+other : (c : tie.Else8) → sameId (ringIn (out (c .before .before .before .before .before .before .before .before .before)) (c .before .before .before .before .before .before .before .spot2 .result)) (from (c .before .before .before .before .before .before .before .before .before .before .before .before .before .before)) ≡ false
 other c = sym (c .before .same3 .ensures) ∙ c .if8 .left
 
 element-copy-out-if1 : tie.Need-element-copy-out-if1
@@ -114,10 +129,10 @@ element-copy-out-if1 c = search needs
 
 returns : tie.Need-returns
 unfolding switchStep
-returns c = let s = c .before .before in not-started (s .args .t1) (s .pre) _ (c .if1 .taken)
+returns c = let s = c .before .before in not-started (start s) (s .pre) _ (c .if1 .taken)
 
 returns-2 : tie.Need-returns-2
-returns-2 c = let s = c .before .before .before in switch-above (s .args .t1) (s .args .cpu) (kindOf (s .args .kind)) (s .pre) (c .before .if1 .left) (c .if2 .taken)
+returns-2 c = let s = c .before .before .before in switch-above (start s) (s .args .cpu) (kindOf (s .args .kind)) (s .pre) (c .before .if1 .left) (c .if2 .taken)
 
 mul-idle : tie.Need-mul-idle
 mul-idle c = search needs
@@ -129,7 +144,7 @@ same-requires : tie.Need-same-requires
 same-requires c κs = search needs
 
 returns-3 : tie.Need-returns-3
-returns-3 c = let s = c .before .before .before .before .before .before .before in switch-off (s .args .t1) (s .args .cpu) (kindOf (s .args .kind)) (s .pre) (c .before .before .before .before .before .if1 .left) (c .before .before .before .before .if2 .left) (c .before .before .if3 .taken) (sym (c .before .same .ensures) ∙ c .if4 .taken)
+returns-3 c = let s = c .before .before .before .before .before .before .before in switch-off (start s) (s .args .cpu) (kindOf (s .args .kind)) (s .pre) (c .before .before .before .before .before .if1 .left) (c .before .before .before .before .if2 .left) (c .before .before .if3 .taken) (sym (c .before .same .ensures) ∙ c .if4 .taken)
 
 mul-from : tie.Need-mul-from
 mul-from c = search needs
@@ -147,7 +162,7 @@ element-copy-out-if6 : tie.Need-element-copy-out-if6
 element-copy-out-if6 c = search needs
 
 pull-requires : tie.Need-pull-requires
-pull-requires c κs = let y = begun (c .before .before .before .before .before) in (y .sound, (is-on (table (c .before .before .before .before .before)) (y .sound) (y .on), (y .low, c .if6 .taken)))
+pull-requires c κs = let y = begun (c .before .before .before .before .before .before .before .before .before .before .before) in (y .sound, (is-on (table (c .before .before .before .before .before .before .before .before .before .before .before)) (y .sound) (y .on), (y .low, c .before .before .before .before .before .before .if6 .taken)))
 
 is-yield-requires : tie.Need-is-yield-requires
 is-yield-requires c κs = search needs
@@ -182,35 +197,35 @@ add-spot c = let m = begun (c .before .before .before .before .before .before .b
 spot-requires : tie.Need-spot-requires
 spot-requires c κs = let y = begun (c .before .before .before .before .before .before .before) in (y .low, (y .sound .rep .most, tail-in (c .before .before .before .before)))
 
-element-write-t : tie.Need-element-write-t
-element-write-t c = from-in (c .before .before .before .before .before)
+element-write-states : tie.Need-element-write-states
+element-write-states c = from-in (c .before .before .before .before .before)
 
-mul-t : tie.Need-mul-t
-mul-t c = search needs
+mul-ring-slots : tie.Need-mul-ring-slots
+mul-ring-slots c = search needs
 
-element-write-t-2 : tie.Need-element-write-t-2
-element-write-t-2 c = search needs
+element-write-ring-slots : tie.Need-element-write-ring-slots
+element-write-ring-slots c = search needs
 
-mul-t-2 : tie.Need-mul-t-2
-mul-t-2 c = search needs
+mul-ring-epochs : tie.Need-mul-ring-epochs
+mul-ring-epochs c = search needs
 
-element-write-t-3 : tie.Need-element-write-t-3
-element-write-t-3 c = search needs
+element-write-ring-epochs : tie.Need-element-write-ring-epochs
+element-write-ring-epochs c = search needs
 
-add-t : tie.Need-add-t
-add-t c = let m = begun (c .before .before .before .before .before .before .before .before) .sound .rep .most in omega (arith, tail-in (c .before .before .before .before .before))
+add-s : tie.Need-add-s
+add-s c = let m = begun (c .before .before .before .before .before .before .before .before) .sound .rep .most in omega (arith, tail-in (c .before .before .before .before .before))
 
-mul-t-3 : tie.Need-mul-t-3
-mul-t-3 c = search needs
+mul-s : tie.Need-mul-s
+mul-s c = search needs
 
-element-write-t-4 : tie.Need-element-write-t-4
-element-write-t-4 c = search needs
+element-write-s : tie.Need-element-write-s
+element-write-s c = search needs
 
 enum-told : tie.Need-enum-told
 enum-told c = search needs
 
-element-write-t-5 : tie.Need-element-write-t-5
-element-write-t-5 c = from-in (c .before .before .before)
+element-write-states-2 : tie.Need-element-write-states-2
+element-write-states-2 c = from-in (c .before .before .before)
 
 raised-requires : tie.Need-raised-requires
 raised-requires c κs = search needs
@@ -218,8 +233,8 @@ raised-requires c κs = search needs
 enum-told-2 : tie.Need-enum-told-2
 enum-told-2 c = search needs
 
-element-write-t-6 : tie.Need-element-write-t-6
-element-write-t-6 c = from-in (c .before .before .before)
+element-write-states-3 : tie.Need-element-write-states-3
+element-write-states-3 c = from-in (c .before .before .before)
 
 mul-wrapping-add-u16 : tie.Need-mul-wrapping-add-u16
 mul-wrapping-add-u16 c = search needs
@@ -230,11 +245,11 @@ element-copy-out-wrapping-add-u16 c = from-in (c .before .before .before)
 wrapping-add-u16-requires : tie.Need-wrapping-add-u16-requires
 wrapping-add-u16-requires c κs = search needs
 
-mul-t-4 : tie.Need-mul-t-4
-mul-t-4 c = search needs
+mul-epochs : tie.Need-mul-epochs
+mul-epochs c = search needs
 
-element-write-t-7 : tie.Need-element-write-t-7
-element-write-t-7 c = from-in (c .before .before .before .before .before)
+element-write-epochs : tie.Need-element-write-epochs
+element-write-epochs c = from-in (c .before .before .before .before .before)
 
 mul-head : tie.Need-mul-head
 mul-head c = search needs
@@ -260,8 +275,8 @@ element-copy-out-epoch c = search needs
 cast-g : tie.Need-cast-g
 cast-g c = search needs
 
-element-write-t-8 : tie.Need-element-write-t-8
-element-write-t-8 c = entry-low (begun (c .before .before .before .before .before .before .before .before .before .before)) (ready (c .before .before .before .before .before .before .before)) (left (c .before .before .before .before .before)) _ (c .before .before .before .spot2 .ensures .0)
+element-write-states-4 : tie.Need-element-write-states-4
+element-write-states-4 c = entry-low (begun (c .before .before .before .before .before .before .before .before .before .before)) (ready (c .before .before .before .before .before .before .before)) (left (c .before .before .before .before .before)) _ (c .before .before .before .spot2 .ensures .0)
 
 add-place : tie.Need-add-place
 add-place c = let m = begun (c .before .before .before .before .before .before .before .before .before .before) .sound .rep .most in omega (arith, head-in (c .before .before .before .before .before))
@@ -269,26 +284,26 @@ add-place c = let m = begun (c .before .before .before .before .before .before .
 place-requires : tie.Need-place-requires
 place-requires c κs = let m = begun (c .before .before .before .before .before .before .before .before .before .before) .sound .rep .some in omega (arith, head-in (c .before .before .before .before .before))
 
-mul-t-5 : tie.Need-mul-t-5
-mul-t-5 c = search needs
+mul-s-2 : tie.Need-mul-s-2
+mul-s-2 c = search needs
 
-element-write-t-9 : tie.Need-element-write-t-9
-element-write-t-9 c = search needs
+element-write-s-2 : tie.Need-element-write-s-2
+element-write-s-2 c = search needs
 
-mul-t-6 : tie.Need-mul-t-6
-mul-t-6 c = search needs
+mul-s-3 : tie.Need-mul-s-3
+mul-s-3 c = search needs
 
-element-copy-out-t : tie.Need-element-copy-out-t
-element-copy-out-t c = search needs
+element-copy-out-s : tie.Need-element-copy-out-s
+element-copy-out-s c = search needs
 
-sub-t : tie.Need-sub-t
-sub-t c = some-queued (begun (c .before .before .before .before .before .before .before .before .before .before .before .before)) (ready (c .before .before .before .before .before .before .before .before .before)) (left (c .before .before .before .before .before .before .before))
+sub-s : tie.Need-sub-s
+sub-s c = some-queued (begun (c .before .before .before .before .before .before .before .before .before .before .before .before)) (ready (c .before .before .before .before .before .before .before .before .before)) (left (c .before .before .before .before .before .before .before))
 
-mul-t-7 : tie.Need-mul-t-7
-mul-t-7 c = search needs
+mul-s-4 : tie.Need-mul-s-4
+mul-s-4 c = search needs
 
-element-write-t-10 : tie.Need-element-write-t-10
-element-write-t-10 c = search needs
+element-write-s-3 : tie.Need-element-write-s-3
+element-write-s-3 c = search needs
 
 mul-to : tie.Need-mul-to
 mul-to c = search needs
@@ -309,10 +324,10 @@ raised-requires-2 : tie.Need-raised-requires-2
 raised-requires-2 c κs = search needs
 
 returns-6 : tie.Need-returns-6
-returns-6 c = parks-over (begun (c .before .before .before .before .before .before .before .before .before .before .before .before .before .before .before .before .before .before .before)) (ready (c .before .before .before .before .before .before .before .before .before .before .before .before .before .before .before .before)) (left (c .before .before .before .before .before .before .before .before .before .before .before .before .before .before)) (entered (c .before .before .before .before .before .before)) (other (c .before .before .before .before .before)) (ap kindOf (c .before .before .before .enum-told3 .given .1)) true refl (c .before .if9 .taken) (c .raised2 .result) (c .raised2 .ensures)
+returns-6 c = parks-over (begun (c .before .before .before .before .before .before .before .before .before .before .before .before .before .before .before .before .before .before .before)) (ready (c .before .before .before .before .before .before .before .before .before .before .before .before .before .before .before .before)) (left (c .before .before .before .before .before .before .before .before .before .before .before .before .before .before)) (entered (c .before .before .before .before .before .before)) (other (c .before .before .before .before .before)) (ap kindOf (c .before .before .before .enum-told3 .given .1)) 1 refl (c .before .if9 .taken) (c .raised2 .result) (c .raised2 .ensures)
 
 returns-7 : tie.Need-returns-7
-returns-7 c = parks-first (begun (c .before .before .before .before .before .before .before .before .before .before .before .before .before .before .before .before .before .before)) (ready (c .before .before .before .before .before .before .before .before .before .before .before .before .before .before .before)) (left (c .before .before .before .before .before .before .before .before .before .before .before .before .before)) (entered (c .before .before .before .before .before)) (other (c .before .before .before .before)) (ap kindOf (c .before .before .enum-told3 .given .1)) true refl (c .if9 .left)
+returns-7 c = parks-first (begun (c .before .before .before .before .before .before .before .before .before .before .before .before .before .before .before .before .before .before)) (ready (c .before .before .before .before .before .before .before .before .before .before .before .before .before .before .before)) (left (c .before .before .before .before .before .before .before .before .before .before .before .before .before)) (entered (c .before .before .before .before .before)) (other (c .before .before .before .before)) (ap kindOf (c .before .before .enum-told3 .given .1)) 1 refl (c .if9 .left)
 
 returns-8 : tie.Need-returns-8
 returns-8 c = goes-on (begun (c .before .before .before .before .before .before .before .before .before .before .before .before .before .before .before)) (ready (c .before .before .before .before .before .before .before .before .before .before .before .before)) (left (c .before .before .before .before .before .before .before .before .before .before)) (entered (c .before .before)) (other (c .before)) (no-exit (c .before .before .before .before .before .before .before .before .before .before .before .before .before .before .before .before .before .before .before .before .args .kind) (c .match2 .keys2))
@@ -343,24 +358,24 @@ switch-on-in-spec =
     element-copy-out-spot
     add-spot
     spot-requires
-    element-write-t
-    mul-t
-    element-write-t-2
-    mul-t-2
-    element-write-t-3
-    add-t
-    mul-t-3
-    element-write-t-4
+    element-write-states
+    mul-ring-slots
+    element-write-ring-slots
+    mul-ring-epochs
+    element-write-ring-epochs
+    add-s
+    mul-s
+    element-write-s
     enum-told
-    element-write-t-5
+    element-write-states-2
     raised-requires
     enum-told-2
-    element-write-t-6
+    element-write-states-3
     mul-wrapping-add-u16
     element-copy-out-wrapping-add-u16
     wrapping-add-u16-requires
-    mul-t-4
-    element-write-t-7
+    mul-epochs
+    element-write-epochs
     mul-head
     element-copy-out-head
     spot-requires-2
@@ -369,16 +384,16 @@ switch-on-in-spec =
     mul-epoch
     element-copy-out-epoch
     cast-g
-    element-write-t-8
+    element-write-states-4
     add-place
     place-requires
-    mul-t-5
-    element-write-t-9
-    mul-t-6
-    element-copy-out-t
-    sub-t
-    mul-t-7
-    element-write-t-10
+    mul-s-2
+    element-write-s-2
+    mul-s-3
+    element-copy-out-s
+    sub-s
+    mul-s-4
+    element-write-s-3
     mul-to
     element-set-from-to
     same-requires-3

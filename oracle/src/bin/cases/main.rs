@@ -9,7 +9,7 @@ use oracle::for_size;
 use oracle::guarded::{self, Refusal};
 use oracle::irqwait::WaitTable;
 use oracle::parktime::Table;
-use oracle::plain::{self, Id, WAKE_SIZES, listed};
+use oracle::plain::{self, WAKE_SIZES, listed};
 use oracle::runqueue::{RunQueue, TaskId};
 use oracle::wake::WakeQueue;
 
@@ -402,29 +402,28 @@ fn wait_marks() -> Line {
     t.1
 }
 
-/// Each of these four tables breaks one clause: every call answers 1, and entries 0 and 1 and mark 5 come back as they were.
+/// Each of these six tables breaks one clause: every call answers 1, and entries 0 and 1 and mark 5 come back as they were. An entry is
+/// its flag, its cookie and its task, which is of epoch 0, by its slot; a mark is its flag and its task.
 fn wait_damaged() -> Line {
     let mut l = Line::from("ours wait damaged");
     for (entries, mark) in [
-        ([Some((7, (2, 0))), Some((7, (3, 0)))], None),
-        ([Some((7, (2, 0))), Some((8, (2, 0)))], None),
-        ([Some((7, (2, 0))), Some((8, (64, 0)))], None),
-        ([None, None], Some((6, 0))),
+        ([(1, 7, 2), (1, 7, 3)], (0, 0)),
+        ([(1, 7, 2), (1, 8, 2)], (0, 0)),
+        ([(1, 7, 2), (1, 8, 64)], (0, 0)),
+        ([(1, 7, 2), (3, 8, 3)], (0, 0)),
+        ([(0, 0, 0); 2], (1, 6)),
+        ([(0, 0, 0); 2], (2, 5)),
     ] {
-        let live: Vec<(u32, Id)> = entries.into_iter().flatten().collect();
-        let mut marks = [None; 64];
-        marks[5] = mark;
-        let sound = plain::waits_sound(&live, &marks);
+        let mut marks = [(0, (0, 0)); 64];
+        marks[5] = (mark.0, (mark.1, 0));
+        let sound = plain::waits_sound(&entries.map(|(live, cookie, slot)| (live, cookie, (slot, 0))), &marks);
         assert!(!sound, "{entries:?} {mark:?} is sound");
         word(&mut l, sound);
         unsound(&mut l, 5);
-        // what is absent holds zeros, as in a table just made
-        let written = |(slot, epoch): Id| id(TaskId::new(slot, epoch));
-        for entry in entries {
-            let (cookie, task) = entry.unwrap_or_default();
-            word(&mut l, format!("{} {cookie} {}", entry.is_some(), written(task)));
+        for (live, cookie, slot) in entries {
+            word(&mut l, format!("{live} {cookie} {}", id(TaskId::new(slot, 0))));
         }
-        word(&mut l, format!("{} {}", mark.is_some(), written(mark.unwrap_or_default())));
+        word(&mut l, format!("{} {}", mark.0, id(TaskId::new(mark.1, 0))));
     }
     l
 }
@@ -520,19 +519,21 @@ fn park_outputs() -> Line {
     t.1
 }
 
-/// A task with two deadlines: arm, disarm and two polls answer 1, and outputs and entries come back as they were.
+/// A task with two deadlines, and a flag that is none: arm, disarm and two polls answer 1, and outputs and entries come back as they
+/// were. An entry is its flag, its task and its deadline.
 fn park_damaged() -> Line {
     let mut l = Line::from("ours park damaged");
-    let entries = [((4, 4), 10), ((4, 4), 11)];
-    let sound = plain::deadlines_sound(&entries.map(|(task, _)| task));
-    assert!(!sound, "{entries:?} is sound");
-    word(&mut l, sound);
-    unsound(&mut l, 3);
-    ids(&mut l, &[BEFORE; 3]);
-    unsound(&mut l, 1);
-    word(&mut l, format!("{BEFORE} {BEFORE}"));
-    for ((slot, epoch), deadline) in entries {
-        word(&mut l, format!("{} {deadline}", id(TaskId::new(slot, epoch))));
+    for entries in [[(1, (4, 4), 10), (1, (4, 4), 11)], [(1, (4, 4), 10), (2, (5, 4), 11)]] {
+        let sound = plain::deadlines_sound(&entries.map(|(live, task, _)| (live, task)));
+        assert!(!sound, "{entries:?} is sound");
+        word(&mut l, sound);
+        unsound(&mut l, 3);
+        ids(&mut l, &[BEFORE; 3]);
+        unsound(&mut l, 1);
+        word(&mut l, format!("{BEFORE} {BEFORE}"));
+        for (live, (slot, epoch), deadline) in entries {
+            word(&mut l, format!("{live} {} {deadline}", id(TaskId::new(slot, epoch))));
+        }
     }
     l
 }

@@ -205,7 +205,7 @@ fn busy() -> Plain {
     t.ring[64] = (4, 0);
     t.currents = [(0, 0), (1, 0)];
     t.idles = [(0, 0), (1, 0)];
-    (t.parked, t.parked_id) = (true, (5, 0));
+    (t.parked, t.parked_id) = (1, (5, 0));
     (t.block_events, t.peak) = (1, 6);
     assert!(t.sound());
     t
@@ -215,7 +215,7 @@ fn set(t: &Plain, what: u8, at: usize, v: u8) -> Plain {
     let mut u = t.clone();
     match what {
         b'n' => u.n = v as usize,
-        b'p' => u.parked = v == 1,
+        b'p' => u.parked = v,
         b's' => u.parked_id = (at as u16, v as u16),
         b'k' => u.peak = v as u32,
         b'o' => u.overwrites = v as u32,
@@ -229,7 +229,7 @@ fn set(t: &Plain, what: u8, at: usize, v: u8) -> Plain {
         b't' => u.states[at] = v,
         b'e' => u.epochs[at] = v as u16,
         b'H' => u.homes[at] = v,
-        b'm' => u.marks[at] = v == 1,
+        b'm' => u.marks[at] = v,
         b'q' => u.ring[at].0 = v as u16,
         b'Q' => u.ring[at].1 = v as u16,
         _ => panic!("no field {what}"),

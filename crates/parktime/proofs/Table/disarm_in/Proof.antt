@@ -5,20 +5,19 @@ use Prim.Native.Nat.{_-_, _<_}
 use native.Mathlib.Omega.{arith}
 use borrow.Author.Needs.{needs}
 use lib.ListN.{length}
-use Rattle.lists.proofs.EntriesLaws.{Freeing, freeing-start}
 use Rattle.parktime.specs.Deadlines.{PLACES, view, isFor}
-use Rattle.parktime.proofs.Laws.{frees, leaves, disarmed}
+use Rattle.parktime.proofs.Laws.{Emptying, emptying-start, frees, leaves, disarmed}
 use Rattle.parktime.proofs.Table.disarm_in.Statement.{statement}
 use Rattle.parktime.proofs.Table.disarm_in.Tie as tie
 
 abbrev Inv-loop : tie.InvT-loop
-Inv-loop task self₀ i₀ self i = Freeing (isFor task) (view self₀) i (view self)
+Inv-loop task self₀ i₀ self i = Emptying (isFor task) (view self₀) i self
 
 abbrev μ-loop : tie.MeasureT-loop
 μ-loop task self₀ i₀ self i = PLACES - i
 
 loop-holds : tie.Need-loop-holds Inv-loop μ-loop
-loop-holds c = freeing-start _ _
+loop-holds c = emptying-start _ _ (c .pre)
 
 mul-e : tie.Need-mul-e Inv-loop μ-loop
 mul-e c = omega arith
@@ -44,7 +43,7 @@ loop-less c = omega arith
 loop-again : tie.Need-loop-again Inv-loop μ-loop
 loop-again c =
     let s = c .before .before .before .before in
-    let more : s .loop .i < length (view (s .before .args .t1)) = omega (arith, s .before .pre .places) in
+    let more : s .loop .i < length (view (s .before .args .t1)) = omega (arith, s .before .pre .plain .places) in
     ⊎-elim
     (λ w. frees _ _ _ _ (s .loop .inv) more (c .if1 .self) (ap (λ t. t .entries) (w .1)) (sym (c .before .is-for .ensures) ∙ w .0 .taken))
     (λ w. rw (w .1) (leaves _ _ _ _ (s .loop .inv) more (sym (c .before .is-for .ensures) ∙ w .0 .left)))

@@ -1,12 +1,12 @@
 -- `Table::lowest_free`: a scan from the front for a place that holds nothing.
-use mathlib.Core.Path.{_≡_, _∙_}
+use mathlib.Core.Path.{_≡_, ap}
 use Prim.Native.Nat.{_-_}
 use native.Mathlib.Omega.{arith}
 use lib.ListN.{length, getD, length-map}
 use Rattle.lists.specs.Entries.{free}
 use Rattle.lists.proofs.SearchLaws.{Passed, passed-none}
 use Rattle.parktime.specs.Deadlines.{PLACES, view}
-use Rattle.parktime.proofs.Laws.{empty, free-is, finds, passes, finds-none}
+use Rattle.parktime.proofs.Laws.{empty, dead-none, live-some, finds, passes, finds-none}
 use Rattle.parktime.proofs.Table.lowest_free.Statement.{statement}
 use Rattle.parktime.proofs.Table.lowest_free.Tie as tie
 
@@ -31,7 +31,7 @@ element-copy-out-e c = omega arith
 returns : tie.Need-returns Inv-loop μ-loop
 returns c =
     let s = c .before .before .before .before in
-    finds _ _ (long (s .before)) _ (s .loop .inv) (omega arith) (free-is (getD (s .before .args .t1 .entries) (s .loop .i) empty) ∙ c .if1 .taken)
+    finds _ _ (long (s .before)) _ (s .loop .inv) (omega arith) (ap free (dead-none (getD (s .before .args .t1 .entries) (s .loop .i) empty) (c .if1 .taken)))
 
 add-i : tie.Need-add-i Inv-loop μ-loop
 add-i c = omega arith
@@ -42,7 +42,7 @@ loop-less c = omega arith
 loop-again : tie.Need-loop-again Inv-loop μ-loop
 loop-again c =
     let s = c .before .before .before .before in
-    passes _ _ (long (s .before)) _ (s .loop .inv) (omega arith) (free-is (getD (s .before .args .t1 .entries) (s .loop .i) empty) ∙ c .if1 .left)
+    passes _ _ (long (s .before)) _ (s .loop .inv) (omega arith) (ap free (live-some (getD (s .before .args .t1 .entries) (s .loop .i) empty) (c .if1 .left)))
 
 returns-2 : tie.Need-returns-2 Inv-loop μ-loop
 returns-2 c = finds-none _ _ (long (c .before .before)) _ (c .before .loop .inv) (c .loop-test .left)

@@ -20,13 +20,13 @@ returns : tie.Need-returns Inv-loop μ-loop
 returns c = poll-short _ (c .before .before .pre) _ _ (c .if1 .taken)
 
 loop-holds : tie.Need-loop-holds Inv-loop μ-loop
-loop-holds c = polling-start _ _ _
+loop-holds c = polling-start _ _ _ (c .before .before .pre)
 
 -- the output keeps its length
 wide : (c : tie.At-loop Inv-loop μ-loop) → length (c .loop .out) ≡ length (c .before .before .before .args .out .now)
 wide c =
     let d = c .before in
-    polling-wide _ _ _ _ _ _ _ (c .loop .inv) (omega (arith, c .loop .inv .most, c .loop .inv .table .within, d .before .before .pre .places, d .if1 .left))
+    polling-wide _ _ _ _ _ _ _ (c .loop .inv) (omega (arith, c .loop .inv .most, c .loop .inv .table .plain .within, d .before .before .pre .plain .places, d .if1 .left))
 
 mul-e : tie.Need-mul-e Inv-loop μ-loop
 mul-e c = omega arith
@@ -67,7 +67,7 @@ loop-again : tie.Need-loop-again Inv-loop μ-loop
 loop-again c =
     let s = c .before .before .before .before in
     let d = s .before in
-    let more : s .loop .i < length (view (d .before .before .args .t1)) = omega (arith, d .before .before .pre .places) in
+    let more : s .loop .i < length (view (d .before .before .args .t1)) = omega (arith, d .before .before .pre .plain .places) in
     let room : s .loop .count < length (d .before .before .args .out .now) = omega (arith, s .loop .inv .most, d .if1 .left) in
     ⊎-elim
     (λ w.

@@ -2,14 +2,15 @@
 use borrow.Author.Tests.{not-false}
 use borrow.Author.Needs.{needs}
 use Rattle.wake.specs.Queue.{Sound}
+use Rattle.wake.specs.Lent.{whole}
 use Rattle.repeats.proofs.known.bredumalt_known_push.Statement.{statement}
 use Rattle.repeats.proofs.known.bredumalt_known_push.Tie as tie
 
 abbrev Inv-loop : tie.InvT-loop
-Inv-loop token rounds q₀ sum₀ left₀ q sum left = Sound q
+Inv-loop token rounds tokens₀ ends₀ sum₀ left₀ tokens ends sum left = Sound (whole tokens ends)
 
 abbrev μ-loop : tie.MeasureT-loop
-μ-loop token rounds q₀ sum₀ left₀ q sum left = left
+μ-loop token rounds tokens₀ ends₀ sum₀ left₀ tokens ends sum left = left
 
 sound-requires : tie.Need-sound-requires Inv-loop μ-loop
 sound-requires c κs = tt

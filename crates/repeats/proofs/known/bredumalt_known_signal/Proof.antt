@@ -1,15 +1,19 @@
 -- The test before the loop says that the table is sound, and every call hands back a sound one.
 use borrow.Author.Tests.{not-false}
+use native.Mathlib.Omega.{arith}
 use borrow.Author.Needs.{needs}
 use Rattle.irqwait.specs.Waits.{Sound}
+use Rattle.irqwait.specs.Lent.{whole}
 use Rattle.repeats.proofs.known.bredumalt_known_signal.Statement.{statement}
 use Rattle.repeats.proofs.known.bredumalt_known_signal.Tie as tie
 
 abbrev Inv-loop : tie.InvT-loop
-Inv-loop cookie id rounds w₀ sum₀ left₀ w sum left = Sound w
+Inv-loop cookie id rounds pending₀ slots₀ epochs₀ waiters₀ sum₀ left₀ pending slots epochs waiters sum left =
+    Sound (whole pending slots epochs waiters)
 
 abbrev μ-loop : tie.MeasureT-loop
-μ-loop cookie id rounds w₀ sum₀ left₀ w sum left = left
+μ-loop cookie id rounds pending₀ slots₀ epochs₀ waiters₀ sum₀ left₀ pending slots epochs waiters sum left =
+    left
 
 sound-requires : tie.Need-sound-requires Inv-loop μ-loop
 sound-requires c κs = tt
@@ -41,8 +45,13 @@ take-pending-in-requires c κs = search needs
 told-requires : tie.Need-told-requires Inv-loop μ-loop
 told-requires c κs = tt
 
+-- Back over the calls, six places each, to the loop's test: it lies further back than a search looks.
 loop-less : tie.Need-loop-less Inv-loop μ-loop
-loop-less c = search needs
+loop-less c =
+    let c2 = c .before .before .before .before .before .before in
+    let c1 = c2 .before .before .before .before .before .before in
+    let c0 = c1 .before .before .before .before .before .before in
+    omega (arith, c0 .loop-test .taken)
 
 loop-again : tie.Need-loop-again Inv-loop μ-loop
 loop-again c = search needs

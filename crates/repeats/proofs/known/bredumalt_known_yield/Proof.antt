@@ -2,14 +2,17 @@
 use borrow.Author.Tests.{not-false}
 use borrow.Author.Needs.{needs}
 use Rattle.memory.specs.View.{Sound}
+use Rattle.memory.specs.Lent.{whole}
 use Rattle.repeats.proofs.known.bredumalt_known_yield.Statement.{statement}
 use Rattle.repeats.proofs.known.bredumalt_known_yield.Tie as tie
 
 abbrev Inv-loop : tie.InvT-loop
-Inv-loop rounds t₀ sum₀ left₀ t sum left = Sound t
+Inv-loop rounds states₀ epochs₀ homes₀ marks₀ ring-slots₀ ring-epochs₀ small₀ sum₀ left₀ states epochs homes marks ring-slots ring-epochs small sum left =
+    Sound (whole states epochs homes marks ring-slots ring-epochs small)
 
 abbrev μ-loop : tie.MeasureT-loop
-μ-loop rounds t₀ sum₀ left₀ t sum left = left
+μ-loop rounds states₀ epochs₀ homes₀ marks₀ ring-slots₀ ring-epochs₀ small₀ sum₀ left₀ states epochs homes marks ring-slots ring-epochs small sum left =
+    left
 
 sound-requires : tie.Need-sound-requires Inv-loop μ-loop
 sound-requires c κs = tt

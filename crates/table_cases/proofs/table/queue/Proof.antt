@@ -31,17 +31,20 @@ add-spot c = search needs
 spot-requires : tie.Need-spot-requires Inv-loop μ-loop
 spot-requires c κs = search needs
 
-mul-t22 : tie.Need-mul-t22 Inv-loop μ-loop
-mul-t22 c = search needs
+mul-slot : tie.Need-mul-slot Inv-loop μ-loop
+mul-slot c = search needs
 
-element-copy-out-t25 : tie.Need-element-copy-out-t25 Inv-loop μ-loop
-element-copy-out-t25 c = search needs
+element-copy-out-slot : tie.Need-element-copy-out-slot Inv-loop μ-loop
+element-copy-out-slot c = search needs
 
-mul-t26 : tie.Need-mul-t26 Inv-loop μ-loop
-mul-t26 c = search needs
+mul-epoch : tie.Need-mul-epoch Inv-loop μ-loop
+mul-epoch c = search needs
 
-element-copy-out-t29 : tie.Need-element-copy-out-t29 Inv-loop μ-loop
-element-copy-out-t29 c = search needs
+element-copy-out-epoch : tie.Need-element-copy-out-epoch Inv-loop μ-loop
+element-copy-out-epoch c = search needs
+
+new-requires : tie.Need-new-requires Inv-loop μ-loop
+new-requires c κs = search needs
 
 id-requires : tie.Need-id-requires Inv-loop μ-loop
 id-requires c κs = search needs
@@ -83,10 +86,11 @@ queue-spec =
     loop-holds
     add-spot
     spot-requires
-    mul-t22
-    element-copy-out-t25
-    mul-t26
-    element-copy-out-t29
+    mul-slot
+    element-copy-out-slot
+    mul-epoch
+    element-copy-out-epoch
+    new-requires
     id-requires
     add-j
     loop-less

@@ -47,17 +47,8 @@ shared-slice-read-digit-3 c = search needs
 digit-requires-3 : tie.Need-digit-requires-3 Inv-loop μ-loop
 digit-requires-3 c κs = search needs
 
-change-requires : tie.Need-change-requires Inv-loop μ-loop
-change-requires c κs = search needs
-
-read-cpu-requires : tie.Need-read-cpu-requires Inv-loop μ-loop
-read-cpu-requires c κs = search needs
-
-read-rest-requires : tie.Need-read-rest-requires Inv-loop μ-loop
-read-rest-requires c κs = search needs
-
-show-requires : tie.Need-show-requires Inv-loop μ-loop
-show-requires c κs = search needs
+call-requires : tie.Need-call-requires Inv-loop μ-loop
+call-requires c κs = search needs
 
 add-i : tie.Need-add-i Inv-loop μ-loop
 add-i c = search needs
@@ -89,10 +80,7 @@ runs-spec =
     add-digit-3
     shared-slice-read-digit-3
     digit-requires-3
-    change-requires
-    read-cpu-requires
-    read-rest-requires
-    show-requires
+    call-requires
     add-i
     loop-less
     loop-again
