@@ -17,7 +17,8 @@
  *
  * Every call takes any bits whatever in tables and numbers. A flag is a byte, 0 or 1. In a table any other byte is damage, and a table
  * that is not sound is refused with 1. As an operand it names nothing and is refused with 12, like a number that is no kind of switch;
- * the table is not looked at then. A call that refuses leaves every table and every lent buffer as it was given.
+ * the table is not looked at then. A call that refuses leaves every table and every lent buffer as it was given, but for the makers of
+ * a ring, a wake queue and a task table: beside 2 they too write the place, with the smallest table of the kind.
  *
  * A pointer must point to what it says. What lies there overlaps with nothing else that the call is given, and nobody else, no
  * interrupt either, makes use of it until the inline function has returned: that is the firmware's lock. Nothing is kept behind it.
