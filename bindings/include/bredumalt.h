@@ -391,7 +391,7 @@ BREDUMALT_MUST_USE bredumalt_answer bredumalt_tasks_peak_slots_at(const uint8_t 
 
 /* THE CALLS ON WHOLE TABLES */
 
-/* The only lines that say which array of a table goes where; they do so for all calls. */
+/* The only lines that say which array of a table goes where; they do so for all calls. (A wake queue has one array, its tokens.) */
 #define BREDUMALT_ARRAYS_OF(t) (t)->states, (t)->epochs, (t)->homes, (t)->marks, (t)->ring_slots, (t)->ring_epochs
 #define BREDUMALT_MARKS_OF(t) (t)->pending, (t)->pending_slots, (t)->pending_epochs
 #define BREDUMALT_ENTRIES_OF(q) (q)->slots, (q)->epochs

@@ -121,7 +121,7 @@ numbered! {
 }
 
 numbered! {
-    /// Why a call is refused: document 01's numbers and names. Every table and every lent buffer is as it was.
+    /// Why a call is refused: document 01's numbers and names. Every table and every lent buffer is as it was, but for `init`.
     pub enum Refusal {
         /// A table handed in is not sound.
         BadTable = 1 => "the table is not sound",

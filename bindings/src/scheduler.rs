@@ -6,7 +6,8 @@ use core::ops::Deref;
 /// The four tables of a board: tasks, interrupt waits, deadlines and wake tokens. None of them knows of the others; what goes from one to
 /// another, an id or a token, is handed over by the caller.
 ///
-/// Every method is one call on one table, and answers by its type. What no method can answer is a `Refusal`, and then nothing has changed.
+/// Every method is one call on one table, and answers by its type. What no method can answer is a `Refusal`, and then nothing has changed,
+/// but by `init`, which makes the smallest table where it refuses a size.
 /// The fields are open, since every call takes any bits: damage is refused with `BadTable`.
 ///
 /// Calls are made one at a time. An interrupt's handler that has calls to make shares the scheduler by a lock, or with interrupts off
