@@ -17,8 +17,8 @@
  *
  * Every call takes any bits whatever in tables and numbers. A flag is a byte, 0 or 1. In a table any other byte is damage, and a table
  * that is not sound is refused with 1. As an operand it names nothing and is refused with 12, like a number that is no kind of switch;
- * the table is not looked at then. A call that refuses leaves every table and every lent buffer as it was given, but for the makers of
- * a ring, a wake queue and a task table: beside 2 they too write the place, with the smallest table of the kind.
+ * the table is not looked at then. A call that refuses leaves every table and every lent buffer as it was given; so does a maker that
+ * is asked for a size which is not listed.
  *
  * A pointer must point to what it says. What lies there overlaps with nothing else that the call is given, and nobody else, no
  * interrupt either, makes use of it until the inline function has returned: that is the firmware's lock. Nothing is kept behind it.
@@ -289,7 +289,8 @@ BREDUMALT_MUST_USE uint8_t bredumalt_lifecycle_force(uint8_t is_idle, uint8_t st
 BREDUMALT_MUST_USE uint8_t bredumalt_lifecycle_cancel(uint8_t state);
 
 /* A ring: its entries, 64 each, and its span. */
-BREDUMALT_MUST_USE bredumalt_span_answer bredumalt_runqueue_new_at(uint16_t *slots, uint16_t *epochs, size_t n);
+BREDUMALT_MUST_USE bredumalt_span_answer bredumalt_runqueue_new_at(uint16_t *slots, uint16_t *epochs, bredumalt_span span,
+    size_t n);
 BREDUMALT_MUST_USE uint8_t bredumalt_runqueue_sound_at(bredumalt_span span);
 BREDUMALT_MUST_USE bredumalt_answer bredumalt_runqueue_capacity_at(bredumalt_span span);
 BREDUMALT_MUST_USE bredumalt_answer bredumalt_runqueue_len_at(bredumalt_span span);
@@ -304,7 +305,7 @@ BREDUMALT_MUST_USE bredumalt_span_answer bredumalt_runqueue_after_yield_at(uint1
     uint8_t requeue, bredumalt_task_id id);
 
 /* The wake queue: its 64 tokens, and its ends. */
-BREDUMALT_MUST_USE bredumalt_ends_answer bredumalt_wake_new_at(uint32_t *tokens, size_t c);
+BREDUMALT_MUST_USE bredumalt_ends_answer bredumalt_wake_new_at(uint32_t *tokens, bredumalt_ends ends, size_t c);
 BREDUMALT_MUST_USE uint8_t bredumalt_wake_sound_at(bredumalt_ends ends);
 BREDUMALT_MUST_USE bredumalt_answer bredumalt_wake_drops_at(bredumalt_ends ends);
 BREDUMALT_MUST_USE bredumalt_answer bredumalt_wake_is_empty_at(bredumalt_ends ends);
@@ -337,7 +338,7 @@ BREDUMALT_MUST_USE bredumalt_deadlines_answer bredumalt_parktime_poll_at(breduma
 
 /* The task table: states, epochs, homes and marks, 64 each, the two rings, 128 each, and the small part. */
 BREDUMALT_MUST_USE bredumalt_small_answer bredumalt_tasks_new_at(uint8_t *states, uint16_t *epochs, uint8_t *homes, uint8_t *marks,
-    uint16_t *ring_slots, uint16_t *ring_epochs, size_t n);
+    uint16_t *ring_slots, uint16_t *ring_epochs, bredumalt_small small, size_t n);
 BREDUMALT_MUST_USE uint8_t bredumalt_tasks_sound_at(const uint8_t *states, const uint16_t *epochs, const uint8_t *homes,
     const uint8_t *marks, const uint16_t *ring_slots, const uint16_t *ring_epochs, bredumalt_small small);
 BREDUMALT_MUST_USE bredumalt_small_answer bredumalt_tasks_start_at(uint8_t *states, uint16_t *epochs, uint8_t *homes,
@@ -396,12 +397,22 @@ BREDUMALT_MUST_USE bredumalt_answer bredumalt_tasks_peak_slots_at(const uint8_t 
 #define BREDUMALT_MARKS_OF(t) (t)->pending, (t)->pending_slots, (t)->pending_epochs
 #define BREDUMALT_ENTRIES_OF(q) (q)->slots, (q)->epochs
 
+/* Nothing of a place is read before a table is made there, since it may hold nothing yet: a maker is handed a small part of zeros, and
+ * what it hands back is stored unless it refuses. */
+#ifdef __cplusplus
+#define BREDUMALT_ZERO {}
+#else
+#define BREDUMALT_ZERO {0}
+#endif
+
 /* The FIFO ring of ready tasks. Refuses with 1 a ring that is not sound. */
 
-/* An empty ring of n places, 1 to 64; beside refusal 2 it is an empty ring of one place. Whatever was there is overwritten. */
+/* Makes an empty ring of n places, 1 to 64, whatever was there; 2 for another n. */
 BREDUMALT_MUST_USE static inline bredumalt_answer bredumalt_runqueue_init(bredumalt_run_queue *q, size_t n) {
-    bredumalt_span_answer got = bredumalt_runqueue_new_at(BREDUMALT_ENTRIES_OF(q), n);
-    q->span = got.span;
+    bredumalt_span zero = BREDUMALT_ZERO;
+    bredumalt_span_answer got = bredumalt_runqueue_new_at(BREDUMALT_ENTRIES_OF(q), zero, n);
+    if (got.answer.refusal == BREDUMALT_REFUSAL_NONE)
+        q->span = got.span;
     return got.answer;
 }
 
@@ -465,11 +476,12 @@ BREDUMALT_MUST_USE static inline bredumalt_answer bredumalt_runqueue_after_yield
 
 /* The queue of wake tokens. Refuses with 1 a queue that is not sound. */
 
-/* An empty queue of c places: 2, 4, 8, 16, 32 or 64, of which one stays free; beside refusal 2 it is one of two places. Whatever was
- * there is overwritten. */
+/* Makes an empty queue of c places: 2, 4, 8, 16, 32 or 64, of which one stays free, whatever was there; 2 for another c. */
 BREDUMALT_MUST_USE static inline bredumalt_answer bredumalt_wake_init(bredumalt_wake_queue *q, size_t c) {
-    bredumalt_ends_answer got = bredumalt_wake_new_at(q->tokens, c);
-    q->ends = got.ends;
+    bredumalt_ends zero = BREDUMALT_ZERO;
+    bredumalt_ends_answer got = bredumalt_wake_new_at(q->tokens, zero, c);
+    if (got.answer.refusal == BREDUMALT_REFUSAL_NONE)
+        q->ends = got.ends;
     return got.answer;
 }
 
@@ -588,10 +600,12 @@ BREDUMALT_MUST_USE static inline bredumalt_answer bredumalt_parktime_poll(bredum
 
 /* The task table. Refuses with 1 a table that is not sound, and a changing call other than start before start with 3. */
 
-/* A table of n slots, 1 to 64, not started; beside refusal 2 it is a table of one slot. Whatever was there is overwritten. */
+/* Makes a table of n slots, 1 to 64, not started, whatever was there; 2 for another n. */
 BREDUMALT_MUST_USE static inline bredumalt_answer bredumalt_tasks_init(bredumalt_tasks *t, size_t n) {
-    bredumalt_small_answer got = bredumalt_tasks_new_at(BREDUMALT_ARRAYS_OF(t), n);
-    t->small = got.small;
+    bredumalt_small zero = BREDUMALT_ZERO;
+    bredumalt_small_answer got = bredumalt_tasks_new_at(BREDUMALT_ARRAYS_OF(t), zero, n);
+    if (got.answer.refusal == BREDUMALT_REFUSAL_NONE)
+        t->small = got.small;
     return got.answer;
 }
 
@@ -748,19 +762,25 @@ BREDUMALT_MUST_USE static inline bredumalt_answer bredumalt_tasks_peak_slots(con
     return bredumalt_tasks_peak_slots_at(BREDUMALT_ARRAYS_OF(t), t->small);
 }
 
-/* Makes all four tables, whatever was there: n slots, and a wake queue of c places. 2 where either size is not listed; all four are
- * sound then too, and one that was to have such a size is the smallest of its kind. */
+/* Makes all four tables, whatever was there: n slots, and a wake queue of c places. 2 where either size is not listed, and then all
+ * four are as they were: so the queue is made beside them first. */
 BREDUMALT_MUST_USE static inline bredumalt_answer bredumalt_init(bredumalt_tables *all, size_t n, size_t c) {
-    bredumalt_answer tasks = bredumalt_tasks_init(&all->tasks, n);
-    bredumalt_answer wakes = bredumalt_wake_init(&all->wakes, c);
-    bredumalt_irqwait_init(&all->waits);
-    bredumalt_parktime_init(&all->deadlines);
-    return tasks.refusal != BREDUMALT_REFUSAL_NONE ? tasks : wakes;
+    bredumalt_wake_queue wakes;
+    bredumalt_answer answer = bredumalt_wake_init(&wakes, c);
+    if (answer.refusal == BREDUMALT_REFUSAL_NONE)
+        answer = bredumalt_tasks_init(&all->tasks, n);
+    if (answer.refusal == BREDUMALT_REFUSAL_NONE) {
+        all->wakes = wakes;
+        bredumalt_irqwait_init(&all->waits);
+        bredumalt_parktime_init(&all->deadlines);
+    }
+    return answer;
 }
 
 #undef BREDUMALT_ARRAYS_OF
 #undef BREDUMALT_MARKS_OF
 #undef BREDUMALT_ENTRIES_OF
+#undef BREDUMALT_ZERO
 
 #ifdef __cplusplus
 }

@@ -5,9 +5,9 @@
 //! and `lifecycle`: it changes the table where it lies and gives an `Answer`, which is numbers.
 //!
 //! Every call is total and takes any bits. A table that is not sound is refused with 1, and a number that names nothing with 12; a call
-//! that refuses leaves every table and every lent buffer as it was, but for `init`, which beside 2 still makes the smallest table. So the
-//! fields of tables are open. Trusted here is that a call is handed the fields of its table, and that its small part is stored back.
-//! What the answers and the tables are is proved on the other side of the boundary, in the crate `bredumalt` of Rattle.
+//! that refuses leaves every table and every lent buffer as it was. So the fields of tables are open. Trusted here is that a call is
+//! handed the fields of its table, and that its small part is stored back. What the answers and the tables are is proved on the other
+//! side of the boundary, in the crate `bredumalt` of Rattle.
 //!
 //! What the archive needs of the firmware, its stack included, stands at the top of `include/bredumalt.h`.
 #![no_std]

@@ -1,9 +1,9 @@
 //! The FIFO ring of ready tasks. Refuses with 1 a ring that is not sound.
 use crate::{Answer, RunQueue, TaskId, sys};
 
-/// An empty ring of `n` places, 1 to 64; beside refusal 2 stands an empty ring of one place.
+/// Makes an empty ring of `n` places, 1 to 64, whatever was there; 2 for another `n`.
 pub fn init(queue: &mut RunQueue, n: usize) -> Answer {
-    let got = sys::bredumalt_runqueue_new_at(&mut queue.slots, &mut queue.epochs, n);
+    let got = sys::bredumalt_runqueue_new_at(&mut queue.slots, &mut queue.epochs, queue.span, n);
     queue.span = got.span;
     got.answer
 }

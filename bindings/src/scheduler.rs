@@ -6,8 +6,7 @@ use core::ops::Deref;
 /// The four tables of a board: tasks, interrupt waits, deadlines and wake tokens. None of them knows of the others; what goes from one to
 /// another, an id or a token, is handed over by the caller.
 ///
-/// Every method is one call on one table, and answers by its type. What no method can answer is a `Refusal`, and then nothing has changed,
-/// but by `init`, which makes the smallest table where it refuses a size.
+/// Every method is one call on one table, and answers by its type. What no method can answer is a `Refusal`, and then nothing has changed.
 /// The fields are open, since every call takes any bits: damage is refused with `BadTable`.
 ///
 /// Calls are made one at a time. An interrupt's handler that has calls to make shares the scheduler by a lock, or with interrupts off
@@ -98,23 +97,28 @@ impl Scheduler {
         Ok(s)
     }
 
-    /// The same in place, for tables that lie in a static, with no copy of them on the stack. Beside `BadSize` the tables are sound and
-    /// just made, with one slot for an `n` that is not listed and two places for such a `c`.
+    /// The same in place, for tables that lie in a static. Where either size is not listed, all four are as they were: so the wake queue
+    /// is made beside them first, and that alone lies on the stack.
     ///
     /// ```
     /// # use bredumalt::{Refusal, Scheduler};
     /// let mut s = Scheduler::ZERO;
     /// s.init(57, 32)?;
     /// assert_eq!(s, Scheduler::new(57, 32)?);
+    /// s.start()?;
+    /// let before = s.clone();
     /// assert_eq!(s.init(0, 32), Err(Refusal::BadSize));
-    /// assert!(s.sound());
+    /// assert_eq!(s.init(57, 33), Err(Refusal::BadSize));
+    /// assert_eq!(s, before);
     /// # Ok::<(), Refusal>(())
     /// ```
     pub fn init(&mut self, n: usize, c: usize) -> Result<(), Refusal> {
+        let wakes = WakeQueue::new(c)?;
+        tasks::init(&mut self.tasks, n).done()?;
+        self.wakes = wakes;
         irqwait::init(&mut self.waits);
         parktime::init(&mut self.deadlines);
-        let (tasks, wakes) = (tasks::init(&mut self.tasks, n), wake::init(&mut self.wakes, c));
-        tasks.done().and(wakes.done())
+        Ok(())
     }
 
     /// Whether all four tables are sound. Calls leave them so; what else writes to them may not.

@@ -55,7 +55,7 @@ unsafe extern "C" {
     pub safe fn bredumalt_lifecycle_reap(is_idle: u8, state: u8) -> u8;
     pub safe fn bredumalt_lifecycle_force(is_idle: u8, state: u8) -> u8;
     pub safe fn bredumalt_lifecycle_cancel(state: u8) -> u8;
-    pub safe fn bredumalt_runqueue_new_at(slots: &mut [u16; 64], epochs: &mut [u16; 64], n: usize) -> SpanAnswer;
+    pub safe fn bredumalt_runqueue_new_at(slots: &mut [u16; 64], epochs: &mut [u16; 64], span: Span, n: usize) -> SpanAnswer;
     pub safe fn bredumalt_runqueue_sound_at(span: Span) -> u8;
     pub safe fn bredumalt_runqueue_capacity_at(span: Span) -> Answer;
     pub safe fn bredumalt_runqueue_len_at(span: Span) -> Answer;
@@ -71,7 +71,7 @@ unsafe extern "C" {
         requeue: u8,
         id: TaskId,
     ) -> SpanAnswer;
-    pub safe fn bredumalt_wake_new_at(tokens: &mut [u32; 64], c: usize) -> EndsAnswer;
+    pub safe fn bredumalt_wake_new_at(tokens: &mut [u32; 64], ends: Ends, c: usize) -> EndsAnswer;
     pub safe fn bredumalt_wake_sound_at(ends: Ends) -> u8;
     pub safe fn bredumalt_wake_drops_at(ends: Ends) -> Answer;
     pub safe fn bredumalt_wake_is_empty_at(ends: Ends) -> Answer;
@@ -127,6 +127,7 @@ unsafe extern "C" {
         marks: &mut [u8; 64],
         ring_slots: &mut [u16; 128],
         ring_epochs: &mut [u16; 128],
+        small: Small,
         n: usize,
     ) -> SmallAnswer;
     pub safe fn bredumalt_tasks_sound_at(

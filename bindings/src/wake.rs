@@ -1,9 +1,9 @@
 //! The queue of wake tokens. Refuses with 1 a queue that is not sound.
 use crate::{Answer, Token, WakeQueue, sys};
 
-/// An empty queue of `c` places: 2, 4, 8, 16, 32 or 64, of which one stays free; beside refusal 2 stands one of two places.
+/// Makes an empty queue of `c` places: 2, 4, 8, 16, 32 or 64, of which one stays free, whatever was there; 2 for another `c`.
 pub fn init(queue: &mut WakeQueue, c: usize) -> Answer {
-    let got = sys::bredumalt_wake_new_at(&mut queue.tokens, c);
+    let got = sys::bredumalt_wake_new_at(&mut queue.tokens, queue.ends, c);
     queue.ends = got.ends;
     got.answer
 }

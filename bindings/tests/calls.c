@@ -93,8 +93,9 @@ static void tell(bredumalt_answer got, bredumalt_answer want, const char *call) 
 
 #define TELLS(call, want) (line = __LINE__, remember(), tell(call, want, #call))
 
-/* A call that makes a table: it is whole, whatever lay there, and even beside a refusal. */
-#define MAKES(call, want) (line = __LINE__, memset(&now, 0xA5, sizeof now), give(call, want, #call))
+/* A call that makes a table, whatever lay there; or one that is to make it in a size that is not listed, and leaves what lay there. */
+#define MAKES(call) (line = __LINE__, memset(&now, 0xA5, sizeof now), give(call, DONE, #call))
+#define MAKES_NONE(call) (line = __LINE__, memset(&now, 0xA5, sizeof now), remember(), tell(call, REFUSED(BAD_SIZE), #call))
 
 static bredumalt_task_id id(uint16_t slot, uint16_t epoch) {
     return (bredumalt_task_id){slot, epoch};
@@ -118,11 +119,9 @@ static void on_ids(void) {
 }
 
 static void on_ring(void) {
-    MAKES(bredumalt_runqueue_init(ring, 0), REFUSED(BAD_SIZE));
-    MAKES(bredumalt_runqueue_init(ring, 65), REFUSED(BAD_SIZE));
-    HOLDS(bredumalt_runqueue_sound(ring) == 1);
-    TELLS(bredumalt_runqueue_capacity(ring), NUMBER(1)); /* the smallest, as the header says */
-    MAKES(bredumalt_runqueue_init(ring, 2), DONE);
+    MAKES_NONE(bredumalt_runqueue_init(ring, 0));
+    MAKES_NONE(bredumalt_runqueue_init(ring, 65));
+    MAKES(bredumalt_runqueue_init(ring, 2));
     HOLDS(bredumalt_runqueue_sound(ring) == 1);
     TELLS(bredumalt_runqueue_capacity(ring), NUMBER(2));
     TELLS(bredumalt_runqueue_is_empty(ring), TOLD(1));
@@ -165,9 +164,8 @@ static void on_ring(void) {
 }
 
 static void on_wakes(void) {
-    MAKES(bredumalt_wake_init(wakes, 3), REFUSED(BAD_SIZE));
-    HOLDS(bredumalt_wake_sound(wakes) == 1 && wakes->ends.c == 2);
-    MAKES(bredumalt_wake_init(wakes, 4), DONE);
+    MAKES_NONE(bredumalt_wake_init(wakes, 3));
+    MAKES(bredumalt_wake_init(wakes, 4));
     HOLDS(bredumalt_wake_sound(wakes) == 1);
     TELLS(bredumalt_wake_is_empty(wakes), TOLD(1));
     for (uint32_t number = 70; number < 73; number++)
@@ -324,10 +322,9 @@ static void tasks_are_refused(void) {
 }
 
 static void on_tasks(void) {
-    MAKES(bredumalt_tasks_init(tasks, 0), REFUSED(BAD_SIZE));
-    MAKES(bredumalt_tasks_init(tasks, 65), REFUSED(BAD_SIZE));
-    HOLDS(bredumalt_tasks_sound(tasks) == 1 && tasks->small.n == 1);
-    MAKES(bredumalt_tasks_init(tasks, 8), DONE);
+    MAKES_NONE(bredumalt_tasks_init(tasks, 0));
+    MAKES_NONE(bredumalt_tasks_init(tasks, 65));
+    MAKES(bredumalt_tasks_init(tasks, 8));
     tasks->states[63] = 200; /* only the first N places count, but what the others hold stays too */
     tasks->marks[8] = 200;
     tasks->ring_slots[127] = 65535;
@@ -434,7 +431,7 @@ static void on_tasks(void) {
     tasks->small.peak = 2; /* peak is at least occupied slots */
     tasks_are_refused();
 
-    MAKES(bredumalt_tasks_init(tasks, 1), DONE);
+    MAKES(bredumalt_tasks_init(tasks, 1));
     ON_TASKS(start(tasks), DONE);
     ON_TASKS(start_cpu1(tasks), NOBODY); /* A11 */
 }
@@ -446,13 +443,10 @@ static bool all_sound(void) {
 
 /* The four tables side by side, made at once. */
 static void on_all(void) {
-    MAKES(bredumalt_init(&now.all, 0, 4), REFUSED(BAD_SIZE));
-    HOLDS(all_sound() && tasks->small.n == 1 && wakes->ends.c == 4);
-    MAKES(bredumalt_init(&now.all, 8, 5), REFUSED(BAD_SIZE));
-    HOLDS(all_sound() && tasks->small.n == 8 && wakes->ends.c == 2);
-    MAKES(bredumalt_init(&now.all, 65, 0), REFUSED(BAD_SIZE));
-    HOLDS(all_sound() && tasks->small.n == 1 && wakes->ends.c == 2);
-    MAKES(bredumalt_init(&now.all, 8, 4), DONE);
+    MAKES_NONE(bredumalt_init(&now.all, 0, 4));
+    MAKES_NONE(bredumalt_init(&now.all, 8, 5));
+    MAKES_NONE(bredumalt_init(&now.all, 65, 0));
+    MAKES(bredumalt_init(&now.all, 8, 4));
     HOLDS(all_sound());
 
     ON_TASKS(admit_on(tasks, 0), REFUSED(NOT_STARTED));

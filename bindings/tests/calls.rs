@@ -68,19 +68,21 @@ fn every_refusal_once() {
     }
 }
 
-// Beside refusal 2 a maker leaves a table of the smallest size, which is sound.
+// A table is made over whatever was there, and a size that is not listed leaves it.
 #[test]
-fn makers_leave_the_smallest_beside_a_refusal() {
-    let (mut t, mut q, mut w) = (Tasks::ZERO, RunQueue::ZERO, WakeQueue::ZERO);
-    assert_eq!(tasks::init(&mut t, 65).reply(), Reply::Refused(2));
-    assert_eq!(runqueue::init(&mut q, 65).reply(), Reply::Refused(2));
-    assert_eq!(wake::init(&mut w, 65).reply(), Reply::Refused(2));
-    assert_eq!((t.small.n, q.span.n, w.ends.c), (1, 1, 2));
-    assert!(tasks::sound(&t) && runqueue::sound(&q) && wake::sound(&w));
-    // a table is made over whatever was there
-    let mut t = started(8);
+fn makers_write_over_a_table_or_leave_it() {
+    let (mut t, mut q, mut w) = (started(8), RunQueue::new(3).unwrap(), WakeQueue::new(8).unwrap());
+    assert_eq!(runqueue::enqueue(&mut q, id(5, 1)).reply(), Reply::Done);
+    assert_eq!(wake::push(&mut w, Token(7)).reply(), Reply::Told(true));
+    for size in [0, 65, usize::MAX] {
+        refused(Refusal::BadSize, &mut t, |t| tasks::init(t, size));
+        refused(Refusal::BadSize, &mut q, |q| runqueue::init(q, size));
+        refused(Refusal::BadSize, &mut w, |w| wake::init(w, size));
+    }
     assert_eq!(tasks::init(&mut t, 4).reply(), Reply::Done);
-    assert_eq!(t, Tasks::new(4).unwrap());
+    assert_eq!(runqueue::init(&mut q, 4).reply(), Reply::Done);
+    assert_eq!(wake::init(&mut w, 4).reply(), Reply::Done);
+    assert_eq!((t, q, w), (Tasks::new(4).unwrap(), RunQueue::new(4).unwrap(), WakeQueue::new(4).unwrap()));
 }
 
 // A line of the program events.

@@ -88,20 +88,22 @@ pub fn end_of_overwrites() -> Result<u64, String> {
     if panics && stays { Ok(2) } else { Err(format!("at the end of overwrites: the Rust panics: {panics}; ours stays: {stays}")) }
 }
 
-/// Makers: 2 exactly for a size that is not listed, and every size's first table is sound. (That it is the Rust's first table, the runs
-/// show at their first call.)
+/// Makers: 2 exactly for a size that is not listed, and then the zeros that lay there stay; a table that is made is sound. (That it is the
+/// Rust's first table, the runs show at their first call; that it is so whatever lay there, the program damage does.)
 pub fn makers(rng: &mut Rng) -> Result<u64, String> {
     let mut sizes: Vec<usize> = (0..300).collect();
     sizes.extend((8..64).flat_map(|bit| [1 << bit, (1 << bit) + 1, (1usize << bit) + 32]));
     sizes.extend((0..1000).map(|_| rng.word() as usize));
     let refused = |a: Answer| a.reply() == Reply::Refused(2);
     for &size in &sizes {
-        let listed = plain::listed(size);
+        let (listed, places) = (plain::listed(size), WAKE_SIZES.contains(&size));
         let (mut t, mut q, mut w) = (Tasks::ZERO, RunQueue::ZERO, WakeQueue::ZERO);
         same(&format!("tasks::init {size} refused"), !listed, refused(tasks::init(&mut t, size)))?;
         same(&format!("runqueue::init {size} refused"), !listed, refused(runqueue::init(&mut q, size)))?;
-        same(&format!("wake::init {size} refused"), !WAKE_SIZES.contains(&size), refused(wake::init(&mut w, size)))?;
-        same(&format!("init {size} sound"), (true, true, true), (tasks::sound(&t), runqueue::sound(&q), wake::sound(&w)))?;
+        same(&format!("wake::init {size} refused"), !places, refused(wake::init(&mut w, size)))?;
+        same(&format!("init {size} sound"), (listed, listed, places), (tasks::sound(&t), runqueue::sound(&q), wake::sound(&w)))?;
+        let left = (t == Tasks::ZERO, q == RunQueue::ZERO, w == WakeQueue::ZERO);
+        same(&format!("init {size} left what lay there"), (!listed, !listed, !places), left)?;
     }
     same("irqwait::init sound", true, irqwait::sound(&WaitTable::new()))?;
     same("parktime::init sound", true, parktime::sound(&Table::new()))?;

@@ -1,5 +1,6 @@
 //! Hands damaged tables to every call over the boundary. The answer has to be 1 exactly when document 01's clauses, as `compare::sound`
-//! reads them, say that the table is not sound; after any refusal the table has to be the one that was given.
+//! reads them, say that the table is not sound; after any refusal the table has to be the one that was given. So it has to be beside a
+//! maker's 2; where it makes a table, that is the same whatever lay there.
 //! `damage short` tries 100,000 tables from a fixed seed; `damage long SEED [TABLES]` 2,000,000.
 
 use bredumalt::{
@@ -9,7 +10,7 @@ use bredumalt::{
 use compare::pair::{Pair, Setup};
 use compare::rng::Rng;
 use compare::{deadlines, ring, sound, tasks, waits, wakes};
-use oracle::plain::WAKE_SIZES;
+use oracle::plain::{WAKE_SIZES, listed};
 use std::hint::black_box;
 use std::process::exit;
 
@@ -63,6 +64,21 @@ fn on_copy<T: Clone>(given: &T, what: &dyn std::fmt::Display, call: impl FnOnce(
 fn nameless<T: Clone + PartialEq>(given: &T, what: String, call: impl FnOnce(&mut T) -> Answer) {
     let (after, answer) = on_copy(given, &what, call);
     insist(answer.reply() == Reply::Refused(12) && after == *given, || format!("{what}: {answer:?}"));
+}
+
+/// A size to make a table in.
+fn any_size(rng: &mut Rng) -> usize {
+    let (near, any) = (rng.below(67), rng.word() as usize);
+    rng.of(&[0, 1, 2, 32, 64, 65, near, any])
+}
+
+/// A maker over the table, in a size that gives `fresh`, or that is not listed.
+fn made<T: Clone + PartialEq + std::fmt::Debug>(given: &T, size: usize, fresh: Option<T>, init: fn(&mut T, usize) -> Answer) {
+    let what = format!("a table of size {size}");
+    let (after, answer) = on_copy(given, &what, |t| init(t, size));
+    let want = if fresh.is_some() { Reply::Done } else { Reply::Refused(2) };
+    let right = answer.reply() == want && after == *fresh.as_ref().unwrap_or(given);
+    insist(right, || format!("{what} over {given:?}\nanswer {answer:?}, table {after:?}"));
 }
 
 /// A byte that is no flag.
@@ -333,6 +349,8 @@ fn try_tasks(rng: &mut Rng, t: &Tasks, count: &mut Count) {
     let (mark, slot) = (no_flag(rng), rng.below(64));
     let x = TaskId { slot: slot as u16, epoch: t.epochs[slot] };
     nameless(t, format!("a mark of {mark}"), |t| bredumalt::tasks::set_stealeable(t, x, mark));
+    let size = any_size(rng);
+    made(t, size, listed(size).then(|| Tasks::new(size).expect("the size is listed")), bredumalt::tasks::init);
     let calls = task_calls(rng, t);
     for &call in &calls {
         let (after, answer) = on_copy(t, &call, |t| tasks::call(t, call));
@@ -341,7 +359,7 @@ fn try_tasks(rng: &mut Rng, t: &Tasks, count: &mut Count) {
     }
     count.tables += 1;
     count.sound += is_sound as u64;
-    count.calls += calls.len() as u64 + 3;
+    count.calls += calls.len() as u64 + 4;
 }
 
 // ---- the small tables
@@ -476,6 +494,8 @@ fn try_wakes(rng: &mut Rng, q: &WakeQueue, count: &mut Count) {
     use wakes::Call::*;
     let is_sound = sound::wakes(q);
     insist(wake::sound(q) == is_sound, || format!("wake::sound is not {is_sound} of {q:?}"));
+    let size = any_size(rng);
+    made(q, size, WAKE_SIZES.contains(&size).then(|| WakeQueue::new(size).expect("the size is listed")), wake::init);
     for call in [Push(rng.word() as u32), Pop, Drops, IsEmpty] {
         let (after, answer) = on_copy(q, &call, |q| wakes::call(q, call));
         judge(q, is_sound, &call, &after, answer, sound::wakes);
@@ -484,7 +504,7 @@ fn try_wakes(rng: &mut Rng, q: &WakeQueue, count: &mut Count) {
     }
     count.tables += 1;
     count.sound += is_sound as u64;
-    count.calls += 1;
+    count.calls += 2;
 }
 
 fn any_ring(rng: &mut Rng, small: bool) -> RunQueue {
@@ -510,6 +530,8 @@ fn try_ring(rng: &mut Rng, q: &RunQueue, count: &mut Count) {
     use ring::Call::*;
     let is_sound = sound::ring(q);
     insist(runqueue::sound(q) == is_sound, || format!("runqueue::sound is not {is_sound} of {q:?}"));
+    let size = any_size(rng);
+    made(q, size, listed(size).then(|| RunQueue::new(size).expect("the size is listed")), runqueue::init);
     let (x, at, requeue) = (any_id(rng), rng.below(70), no_flag(rng));
     nameless(q, format!("a requeue of {requeue}"), |q| runqueue::after_yield(q, requeue, x));
     for call in [Enqueue(x), Dequeue, AfterYield(None), AfterYield(Some(x)), Capacity, Len, IsEmpty, IsFull, Front, ReadyAt(at)] {
@@ -521,7 +543,7 @@ fn try_ring(rng: &mut Rng, q: &RunQueue, count: &mut Count) {
     }
     count.tables += 1;
     count.sound += is_sound as u64;
-    count.calls += 2;
+    count.calls += 3;
 }
 
 // ---- where tables come from

@@ -1,11 +1,12 @@
 -- Document 01, "What the contracts have to nail": any two outcomes that a contract admits coincide. Proved once, for
--- every kind of table and every call on a table, since the contract of such a call has one of these three shapes.
-use mathlib.Core.Path.{_≡_, sym, _∙_, ap}
+-- every kind of table and every call on a table, since the contract of such a call has one of these four shapes.
+use mathlib.Core.Path.{_≡_, refl, sym, _∙_, ap}
+use mathlib.Core.Bool.{Bool, true, false}
 use Prim.Native.Nat.{ℕ}
 use native.Mathlib.Decide.{ℕ-discrete}
 use native.Mathlib.Omega.{arith}
-use Rattle.answers.specs.Reply.{Reply, refused, done, told, number, named, value, stays, switched, Refused}
-use Rattle.answers.specs.Contract.{Kind, Step, Makes, Does, Meets}
+use Rattle.answers.specs.Reply.{Reply, refused, done, told, number, named, value, stays, switched, isRefused, Refused}
+use Rattle.answers.specs.Contract.{Kind, Step, Makes, MakesAt, Does, Meets}
 
 -- whether an answer is 1
 is-bad : (r : Reply) → Dec (r ≡ refused 1)
@@ -31,6 +32,19 @@ pub record Same (k : Kind) (u v : k .Memory) (a b : Reply) : Type 0 where
 module _ (k : Kind) where
   pub made-once : (u v : k .Memory) (a b : Reply) (want : Step (k .Plain)) → Makes k u a want → Makes k v b want → (a ≡ b) × (k .view u ≡ k .view v)
   made-once u v a b want m n = (m .reply ∙ sym (n .reply), m .after ∙ sym (n .after))
+
+  pub made-at-once : (t u v : k .Memory) (a b : Reply) (want : Step (k .Plain)) → MakesAt k t u a want → MakesAt k t v b want → Same k u v a b
+  made-at-once t u v a b want m n = record { reply = e; after = go (isRefused a) refl; whole = one }
+    where
+      e : a ≡ b
+      e = m .reply ∙ sym (n .reply)
+
+      one : Refused a → u ≡ v
+      one r = m .kept r ∙ sym (n .kept (rw e at r))
+
+      go : (x : Bool) → isRefused a ≡ x → k .view u ≡ k .view v
+      go true h = ap (k .view) (one (rw h tt))
+      go false h = m .made (λ r. rw h at r) .after ∙ sym (n .made (λ r. rw (sym e, h) at r) .after)
 
   pub done-once : (t u v : k .Memory) (a b : Reply) (want : Step (k .Plain)) → Does k t u a want → Does k t v b want → Same k u v a b
   done-once t u v a b want m n =

@@ -4,7 +4,7 @@ use mathlib.Core.Bool.{Bool, true, false, cond}
 use Prim.Native.Nat.{ℕ}
 use native.Mathlib.Omega.{arith}
 use Rattle.answers.specs.Reply.{Reply, refused, done, Refused}
-use Rattle.answers.specs.Contract.{Kind, Step, Does, Reads, Meets, Answers, refusing}
+use Rattle.answers.specs.Contract.{Kind, Step, Makes, MakesAt, Does, Reads, Meets, Answers, refusing}
 
 module _ (k : Kind) (t : k .Memory) where
   -- the test failed
@@ -30,6 +30,13 @@ module _ (k : Kind) (t : k .Memory) where
   pub does : (u : k .Memory) (got : Reply) (want : Step (k .Plain)) → (Refused got → ⊥) → got ≡ want .reply → k .view u ≡ want .after → k .Sound u → Does k t u got want
   does u got want f e a s =
       record { fine = λ z. f (subst Refused (sym z) tt); makes = record { reply = e; after = a; sound = s }; kept = λ r. absurd (f r) }
+
+  -- a maker over a place: the size will not do, or the table is made
+  pub leaves-at : (n : ℕ) (want : Step (k .Plain)) → refused n ≡ want .reply → MakesAt k t t (refused n) want
+  leaves-at n want e = record { reply = e; made = λ f. absurd (f tt); kept = λ _. refl }
+
+  pub makes-at : (u : k .Memory) (want : Step (k .Plain)) → Makes k u done want → MakesAt k t u done want
+  makes-at u want m = record { reply = m .reply; made = λ _. m; kept = λ r. absurd r }
 
 -- A MAKER'S ANSWER
 

@@ -33,6 +33,12 @@ pub record Makes (k : Kind) (u : k .Memory) (got : Reply) (want : Step (k .Plain
   pub after : k .view u ≡ want .after
   pub sound : k .Sound u
 
+-- a maker that is lent the place for its table: it makes the table there, or refuses and leaves what lay there
+pub record MakesAt (k : Kind) (t u : k .Memory) (got : Reply) (want : Step (k .Plain)) : Type 0 where
+  pub reply : got ≡ want .reply
+  pub made : (Refused got → ⊥) → Makes k u got want
+  pub kept : Refused got → u ≡ t
+
 -- an inner call, for callers that hold soundness: it never answers 1, and a refusal hands the table back as given
 pub record Does (k : Kind) (t u : k .Memory) (got : Reply) (want : Step (k .Plain)) : Type 0 where
   pub fine : got ≡ refused 1 → ⊥

@@ -1,8 +1,7 @@
 // The calls on a ring of ready tasks: pointers to its entries, and its span by value.
-ghost use Rattle.answers.specs.Contract.{Makes};
-ghost use Rattle.runqueue.specs.Ring.{Fit, ring};
+ghost use Rattle.runqueue.specs.Ring.{Fit};
 ghost use Rattle.runqueue.specs.Steps.{newStep, enqueueStep, dequeueStep, afterYieldStep, readyAtReply, lenReply, emptyReply, fullReply, capacityReply};
-ghost use Rattle.runqueue.specs.Lent.{lent, MeetsLent, AnswersLent, AnswersAny};
+ghost use Rattle.runqueue.specs.Lent.{MakesLent, MeetsLent, AnswersLent, AnswersAny};
 ghost use Rattle.numbers.specs.Numbers.{Crossed};
 ghost use Rattle.numbers.specs.Operands.{flagNamed, idIf};
 ghost use Rattle.bredumalt.specs.Named.{TellsByte, MeetsRingNamed};
@@ -23,11 +22,12 @@ pub struct SpanAnswer {
 pub extern "C" fn bredumalt_runqueue_new_at(
     slots: &mut [u16; 64],
     epochs: &mut [u16; 64],
+    span: Span,
     n: usize,
 ) -> SpanAnswer
-    ensures { λ r. ⌜ Crossed (r .answer) (λ got. Makes ring (lent (slots .exit) (epochs .exit) (r .span)) got (newStep n)) ⌝ }
+    ensures { λ r. ⌜ Crossed (r .answer) (λ got. MakesLent slots epochs span (r .span) got (newStep n)) ⌝ }
 {
-    let done = runqueue::new_at(slots, epochs, n);
+    let done = runqueue::new_at(slots, epochs, span, n);
     let span = done.span;
     let answer = done.answer;
     SpanAnswer {

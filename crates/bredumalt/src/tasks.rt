@@ -1,9 +1,8 @@
 // The calls on a task table: pointers to its arrays, and its small part by value.
-ghost use Rattle.answers.specs.Contract.{Makes};
 ghost use Rattle.model.specs.Steps.{newStep, startStep, startCpuStep, admitStep, markStep, wakeStep, collectStep};
 ghost use Rattle.model.specs.Switch.{tryStealStep, switchStep};
-ghost use Rattle.memory.specs.View.{Sound, table};
-ghost use Rattle.memory.specs.Lent.{was, left, MeetsLent};
+ghost use Rattle.memory.specs.View.{Sound};
+ghost use Rattle.memory.specs.Lent.{was, MakesLent, MeetsLent};
 ghost use Rattle.numbers.specs.Numbers.{Crossed};
 ghost use Rattle.numbers.specs.Operands.{kindNamed, flagNamed};
 ghost use Rattle.bredumalt.specs.Named.{MeetsLentNamed, TellsByte};
@@ -29,11 +28,21 @@ pub extern "C" fn bredumalt_tasks_new_at(
     marks: &mut [u8; 64],
     ring_slots: &mut [u16; 128],
     ring_epochs: &mut [u16; 128],
+    small: Small,
     n: usize,
 ) -> SmallAnswer
-    ensures { λ r. ⌜ Crossed (r .answer) (λ got. Makes table (left states epochs homes marks «ring_slots» «ring_epochs» (r .small)) got (newStep n)) ⌝ }
+    ensures { λ r. ⌜ Crossed (r .answer) (λ got. MakesLent states epochs homes marks «ring_slots» «ring_epochs» small (r .small) got (newStep n)) ⌝ }
 {
-    let done = memory::new_at(states, epochs, homes, marks, ring_slots, ring_epochs, n);
+    let done = memory::new_at(
+        states,
+        epochs,
+        homes,
+        marks,
+        ring_slots,
+        ring_epochs,
+        small,
+        n,
+    );
     let small = done.small;
     let answer = done.answer;
     SmallAnswer {

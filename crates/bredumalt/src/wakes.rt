@@ -1,8 +1,7 @@
 // The calls on the wake queue: a pointer to its tokens, and its ends by value.
-ghost use Rattle.answers.specs.Contract.{Makes};
-ghost use Rattle.wake.specs.Queue.{Fit, wakes};
+ghost use Rattle.wake.specs.Queue.{Fit};
 ghost use Rattle.wake.specs.Steps.{newStep, pushStep, popStep, dropsReply, emptyReply};
-ghost use Rattle.wake.specs.Lent.{lent, MeetsLent, AnswersAny};
+ghost use Rattle.wake.specs.Lent.{MakesLent, MeetsLent, AnswersAny};
 ghost use Rattle.numbers.specs.Numbers.{Crossed};
 ghost use Rattle.bredumalt.specs.Named.{TellsByte};
 use ids::Token;
@@ -17,10 +16,10 @@ pub struct EndsAnswer {
 }
 
 #[no_mangle]
-pub extern "C" fn bredumalt_wake_new_at(tokens: &mut [u32; 64], c: usize) -> EndsAnswer
-    ensures { λ r. ⌜ Crossed (r .answer) (λ got. Makes wakes (lent (tokens .exit) (r .ends)) got (newStep c)) ⌝ }
+pub extern "C" fn bredumalt_wake_new_at(tokens: &mut [u32; 64], ends: Ends, c: usize) -> EndsAnswer
+    ensures { λ r. ⌜ Crossed (r .answer) (λ got. MakesLent tokens ends (r .ends) got (newStep c)) ⌝ }
 {
-    let done = wake::new_at(tokens, c);
+    let done = wake::new_at(tokens, ends, c);
     let ends = done.ends;
     let answer = done.answer;
     EndsAnswer {

@@ -482,15 +482,11 @@ impl WaitTable {
     pub fn new() -> WaitTable
         ensures { λ r. ⌜ Makes waits r done newStep ⌝ }
     {
-        let mut pending = [0u8; 64];
-        let mut slots = [0u16; 64];
-        let mut epochs = [0u16; 64];
-        let waiters = new_at(&mut pending, &mut slots, &mut epochs);
         WaitTable {
-            waiters: waiters,
-            pending: pending,
-            pending_slots: slots,
-            pending_epochs: epochs,
+            waiters: [Waiter::FREE; 8],
+            pending: [0; 64],
+            pending_slots: [0; 64],
+            pending_epochs: [0; 64],
         }
     }
 

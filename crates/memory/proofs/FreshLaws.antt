@@ -1,27 +1,29 @@
 -- A table that has just been made is the model's.
 use mathlib.Core.Path.{_≡_, refl, _∙_, ap}
+use mathlib.Core.Bool.{true, false}
 use mathlib.Core.List.{_∷_}
 use Prim.Native.Nat.{ℕ, zero, suc, _≤_, _<_, _*_}
 use native.Mathlib.Omega.{arith}
 use lib.ListN.{length, take, replicate, length-replicate}
-use borrow.Author.Tests.{le-leb, lt-leb}
 use Rattle.lists.specs.Flags.{isSet}
 use Rattle.lists.specs.Tab.{tab}
 use Rattle.lists.proofs.Basics.{getD-all, map-replicate}
 use Rattle.lists.proofs.TabLaws.{tab-ext}
 use Rattle.ids.specs.Id.{idle}
 use Rattle.answers.specs.Reply.{refused, done}
-use Rattle.answers.specs.Contract.{Makes}
+use Rattle.answers.specs.Sizes.{listed}
+use Rattle.answers.specs.Contract.{Makes, MakesAt}
+use Rattle.answers.proofs.Returns.{leaves-at, makes-at}
 use Rattle.runqueue.specs.Ring.{idAt}
 use Rattle.runqueue.proofs.RingLaws.{around-none}
+use Rattle.runqueue.proofs.Laws.{listed-both}
 use Rattle.model.specs.Model.{MOST, CPUS, noCpu, fresh}
 use Rattle.model.specs.Steps.{newStep}
 use Rattle.model.proofs.Claims.{fresh-sound}
 use Rattle.memory.specs.declared.Small.{Small}
 use Rattle.memory.specs.declared.Tasks.{Tasks}
 use Rattle.memory.specs.View.{SPAN, cpuAt, view, Rep, Sound, table}
-use Rattle.memory.specs.Lent.{whole}
-use Rattle.memory.specs.Blank.{BlankSmall}
+use Rattle.memory.specs.Blank.{BlankSmall, Blank, cleared}
 
 take-replicate : {A : Type 0} (n m : ℕ) (a : A) → n ≤ m → take n (replicate m a) ≡ replicate n a
 take-replicate zero m a h = refl
@@ -32,10 +34,6 @@ tab-const : {A : Type 0} (n : ℕ) (a : A) → tab n (λ j. a) ≡ replicate n a
 unfolding tab
 tab-const zero a = refl
 tab-const (suc n) a = ap (λ l. a ∷ l) (tab-const n a)
-
--- arrays of nothing but 0, beside a blank small part
-abbrev cleared : Small → Tasks
-cleared s = whole (replicate MOST 0) (replicate MOST 0) (replicate MOST 0) (replicate MOST 0) (replicate (CPUS * SPAN) 0) (replicate (CPUS * SPAN) 0) s
 
 module _ (n : ℕ) (s : Small) (b : BlankSmall n s) (some : 1 ≤ n) (most : n ≤ MOST) where
   no-cpu : (c : ℕ) → c < CPUS → cpuAt (cleared s) c ≡ noCpu
@@ -71,23 +69,29 @@ module _ (n : ℕ) (s : Small) (b : BlankSmall n s) (some : 1 ≤ n) (most : n �
   blank-sound : Sound (cleared s)
   blank-sound = record { rep = fresh-rep; model = rw fresh-view (fresh-sound n some most) }
 
--- THE RETURNS OF `new_at`
+-- THE RETURNS OF `new` AND OF `new_at`
 
-pub new-small : (n : ℕ) (s : Small) → n < 1 → BlankSmall 1 s → Makes table (cleared s) (refused 2) (newStep n)
+made-bad : (n : ℕ) (s : Small) → listed n ≡ false → BlankSmall 1 s → Makes table (cleared s) (refused 2) (newStep n)
 unfolding newStep
-new-small n s h b =
-    record { reply = rw (lt-leb 1 n h); after = rw (lt-leb 1 n h) (fresh-view 1 s b (omega arith) (omega arith)); sound = blank-sound 1 s b (omega arith) (omega arith) }
+made-bad n s l b =
+    record { reply = rw l; after = rw l (fresh-view 1 s b (omega arith) (omega arith)); sound = blank-sound 1 s b (omega arith) (omega arith) }
 
-pub new-large : (n : ℕ) (s : Small) → 1 ≤ n → MOST < n → BlankSmall 1 s → Makes table (cleared s) (refused 2) (newStep n)
+made-done : (n : ℕ) (s : Small) → listed n ≡ true → BlankSmall n s → Makes table (cleared s) done (newStep n)
 unfolding newStep
-new-large n s g h b =
-    record {
-      reply = rw (le-leb 1 n g, lt-leb n MOST h);
-      after = rw (le-leb 1 n g, lt-leb n MOST h) (fresh-view 1 s b (omega arith) (omega arith));
-      sound = blank-sound 1 s b (omega arith) (omega arith);
-    }
+made-done n s l b =
+    let h = listed-both n l in
+    record { reply = rw l; after = rw l (fresh-view n s b (h .0) (h .1)); sound = blank-sound n s b (h .0) (h .1) }
 
-pub new-done : (n : ℕ) (s : Small) → 1 ≤ n → n ≤ MOST → BlankSmall n s → Makes table (cleared s) done (newStep n)
+pub new-bad : (n : ℕ) (t : Tasks) → listed n ≡ false → Blank 1 t → Makes table t (refused 2) (newStep n)
+new-bad n t l b = rw (b .arrays) (made-bad n (t .small) l (b .small))
+
+pub new-done : (n : ℕ) (t : Tasks) → listed n ≡ true → Blank n t → Makes table t done (newStep n)
+new-done n t l b = rw (b .arrays) (made-done n (t .small) l (b .small))
+
+-- over a place: a size that will not do leaves what lay there
+pub new-left : (n : ℕ) (t : Tasks) → listed n ≡ false → MakesAt table t t (refused 2) (newStep n)
 unfolding newStep
-new-done n s g h b =
-    record { reply = rw (le-leb 1 n g, le-leb n MOST h); after = rw (le-leb 1 n g, le-leb n MOST h) (fresh-view n s b g h); sound = blank-sound n s b g h }
+new-left n t l = leaves-at table t 2 _ (rw l)
+
+pub new-there : (n : ℕ) (t : Tasks) (s : Small) → listed n ≡ true → BlankSmall n s → MakesAt table t (cleared s) done (newStep n)
+new-there n t s l b = makes-at table t (cleared s) _ (made-done n s l b)

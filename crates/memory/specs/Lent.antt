@@ -4,7 +4,7 @@ use Prim.Native.Nat.{ℕ}
 use denote.Ref.{RefT, now}
 use denote.Triple.Both.{Both}
 use Rattle.answers.specs.Reply.{Reply}
-use Rattle.answers.specs.Contract.{Step, Does, Reads, Meets, Answers}
+use Rattle.answers.specs.Contract.{Step, MakesAt, Does, Reads, Meets, Answers}
 use Rattle.model.specs.Model.{Model}
 use Rattle.memory.specs.declared.Small.{Small}
 use Rattle.memory.specs.declared.Tasks.{Tasks}
@@ -45,6 +45,11 @@ DoesLent states epochs homes marks slots tenures s u got step =
 abbrev pub MeetsLent : Changed → Changed → Changed → Changed → Changed → Changed → Small → Small → Reply → (Model → Step Model) → Type 0
 MeetsLent states epochs homes marks slots tenures s u got step =
     let t = was states epochs homes marks slots tenures s in Meets table t (left states epochs homes marks slots tenures u) got (step (view t))
+
+-- of a maker: what lay there before, and what lies there now
+abbrev pub MakesLent : Changed → Changed → Changed → Changed → Changed → Changed → Small → Small → Reply → Step Model → Type 0
+MakesLent states epochs homes marks slots tenures s u got want =
+    MakesAt table (was states epochs homes marks slots tenures s) (left states epochs homes marks slots tenures u) got want
 
 -- likewise of calls that only read
 abbrev pub ReadsLent : {A B C D E F : Type 0} → Seen A → Seen B → Seen C → Seen D → Seen E → Seen F → Small → Reply → (Model → Reply) → Type 0

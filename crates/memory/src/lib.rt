@@ -9,8 +9,8 @@ ghost use Rattle.answers.specs.Contract.{Makes};
 ghost use Rattle.runqueue.specs.Ring.{placed};
 ghost use Rattle.model.specs.Model.{CPUS};
 ghost use Rattle.model.specs.Steps.{newStep};
-ghost use Rattle.memory.specs.Blank.{BlankSmall};
-ghost use Rattle.memory.specs.Lent.{left};
+ghost use Rattle.memory.specs.Blank.{BlankSmall, Blank};
+ghost use Rattle.memory.specs.Lent.{MakesLent};
 ghost use Rattle.memory.specs.View.{SPAN, table};
 use answers::Ack;
 use answers::Named;
@@ -107,7 +107,7 @@ fn new_small(n: usize) -> Small
     }
 }
 
-// A table is made where its arrays lie.
+// A table is made where its arrays lie; beside BadSize what lay there stays.
 pub fn new_at(
     states: &mut [u8; 64],
     epochs: &mut [u16; 64],
@@ -115,28 +115,23 @@ pub fn new_at(
     marks: &mut [u8; 64],
     ring_slots: &mut [u16; 128],
     ring_epochs: &mut [u16; 128],
+    s: Small,
     n: usize,
 ) -> LentAck
-    ensures { λ r. ⌜ Makes table (left states epochs homes marks «ring_slots» «ring_epochs» (r .small)) (ackReply (r .answer)) (newStep n) ⌝ }
+    ensures { λ r. ⌜ MakesLent states epochs homes marks «ring_slots» «ring_epochs» s (r .small) (ackReply (r .answer)) (newStep n) ⌝ }
 {
+    if !runqueue::is_listed(n) {
+        return LentAck {
+            small: s,
+            answer: Ack::Refused(Refusal::BadSize),
+        };
+    }
     *states = [0; 64];
     *epochs = [0; 64];
     *homes = [0; 64];
     *marks = [0; 64];
     *ring_slots = [0; 128];
     *ring_epochs = [0; 128];
-    if n < 1 {
-        return LentAck {
-            small: new_small(1),
-            answer: Ack::Refused(Refusal::BadSize),
-        };
-    }
-    if 64 < n {
-        return LentAck {
-            small: new_small(1),
-            answer: Ack::Refused(Refusal::BadSize),
-        };
-    }
     LentAck {
         small: new_small(n),
         answer: Ack::Done,
@@ -151,34 +146,29 @@ impl Tasks {
     pub fn new(n: usize) -> Acked
         ensures { λ r. ⌜ Makes table (r .tasks) (ackReply (r .answer)) (newStep n) ⌝ }
     {
-        let mut states = [0u8; 64];
-        let mut epochs = [0u16; 64];
-        let mut homes = [0u8; 64];
-        let mut marks = [0u8; 64];
-        let mut ring_slots = [0u16; 128];
-        let mut ring_epochs = [0u16; 128];
-        let made = new_at(
-            &mut states,
-            &mut epochs,
-            &mut homes,
-            &mut marks,
-            &mut ring_slots,
-            &mut ring_epochs,
-            n,
-        );
-        let small = made.small;
-        let answer = made.answer;
+        if !runqueue::is_listed(n) {
+            return Acked {
+                tasks: Tasks::blank(1),
+                answer: Ack::Refused(Refusal::BadSize),
+            };
+        }
         Acked {
-            tasks: Tasks {
-                small: small,
-                states: states,
-                epochs: epochs,
-                homes: homes,
-                marks: marks,
-                ring_slots: ring_slots,
-                ring_epochs: ring_epochs,
-            },
-            answer: answer,
+            tasks: Tasks::blank(n),
+            answer: Ack::Done,
+        }
+    }
+
+    fn blank(n: usize) -> Tasks
+        ensures { λ r. ⌜ Blank n r ⌝ }
+    {
+        Tasks {
+            small: new_small(n),
+            states: [0; 64],
+            epochs: [0; 64],
+            homes: [0; 64],
+            marks: [0; 64],
+            ring_slots: [0; 128],
+            ring_epochs: [0; 128],
         }
     }
 }

@@ -5,8 +5,8 @@ use mathlib.Core.Bool.{true, false}
 use mathlib.Core.Option.{Option, some, none}
 use borrow.Author.Tests.{ne-eqb}
 use Rattle.answers.specs.Reply.{Reply, refused, done, told, number, named, value, stays, switched, Refused}
-use Rattle.answers.specs.Contract.{Kind, Step, Makes, Meets}
-use Rattle.answers.proofs.Coincide.{Same, made-once, coincide}
+use Rattle.answers.specs.Contract.{Kind, Step, Makes, MakesAt, Meets}
+use Rattle.answers.proofs.Coincide.{Same, made-once, made-at-once, coincide}
 use Rattle.numbers.specs.declared.Answer.{Answer}
 use Rattle.numbers.specs.Numbers.{numbersOf, Crossed}
 use Rattle.numbers.specs.Operands.{MeetsNamed}
@@ -64,6 +64,10 @@ module _ (a b : Answer) (k : Kind) where
   export-named-once t u v step none x y =
       let e : u ≡ v = x .holds .1 ∙ sym (y .holds .1) in
       same-export u v (x .reply) (y .reply) (x .numbers) (y .numbers) (record { reply = x .holds .0 ∙ sym (y .holds .0); after = ap (k .view) e; whole = λ _. e })
+
+  pub export-made-at-once : (t u v : k .Memory) (want : Step (k .Plain)) → Crossed a (λ got. MakesAt k t u got want) → Crossed b (λ got. MakesAt k t v got want) → SameExport k u v a b
+  export-made-at-once t u v want x y =
+      same-export u v (x .reply) (y .reply) (x .numbers) (y .numbers) (made-at-once k t u v (x .reply) (y .reply) want (x .holds) (y .holds))
 
   pub export-made-once : (u v : k .Memory) (want : Step (k .Plain)) → Crossed a (λ got. Makes k u got want) → Crossed b (λ got. Makes k v got want) → (a ≡ b) × (k .view u ≡ k .view v)
   export-made-once u v want x y =

@@ -9,12 +9,14 @@ use lib.ListN.{length, getD, set, getElem?}
 use lib.Dec.{leb, ltb, eqb}
 use borrow.Author.Tests.{lt-ltb, le-ltb, le-leb, lt-leb, leb-true, leb-false}
 use Rattle.lists.specs.Tells.{Tells}
-use Rattle.lists.proofs.Basics.{tells-no, tells-by}
+use Rattle.lists.proofs.Basics.{not-both, both-true, tells-no, tells-by}
 use Rattle.ids.specs.declared.TaskId.{TaskId}
 use Rattle.ids.specs.Id.{idle}
 use Rattle.answers.specs.Reply.{Reply, refused, done, told, number, named, Refused}
-use Rattle.answers.specs.Contract.{Makes, Does, Answers}
-use Rattle.answers.proofs.Returns.{answers, does-keep, does}
+use Rattle.answers.specs.Contract.{Makes, MakesAt, Does, Answers}
+use Rattle.answers.specs.Sizes.{MOST, listed}
+use Rattle.answers.proofs.Returns.{answers, does-keep, does, leaves-at}
+use Rattle.runqueue.specs.declared.Span.{Span}
 use Rattle.runqueue.specs.declared.RunQueue.{RunQueue}
 use Rattle.runqueue.specs.Ring.{placed, around, idAt, queueAt, view, Fit, Sound, ring}
 use Rattle.runqueue.specs.Steps.{ringOf, newStep, enqueueStep, dequeueOf, dequeueStep, afterYieldStep, readyAtReply, lenReply, emptyReply, fullReply, capacityReply}
@@ -51,37 +53,49 @@ getElem-past (x ∷ l) (suc i) h = getElem-past l i (omega arith)
 
 -- MAKING
 
-pub fits-no : (n head len : ℕ) → (Fit n head len → ⊥) → Tells false (Fit n head len)
-fits-no n head len f = tells-no f
+pub listed-is : (n : ℕ) → 1 ≤ n → leb n MOST ≡ listed n
+listed-is n h = rw (le-leb 1 n h)
 
-pub fits-last : (n head len : ℕ) → 1 ≤ n → n ≤ 64 → head < n → Tells (leb len n) (Fit n head len)
-fits-last n head len a b c =
+pub unlisted-is : (n : ℕ) → n < 1 → false ≡ listed n
+unlisted-is n h = rw (lt-leb 1 n h)
+
+pub listed-both : (n : ℕ) → listed n ≡ true → (1 ≤ n) × (n ≤ MOST)
+listed-both n l = let h = both-true (leb 1 n) (leb n MOST) l in (leb-true 1 n (h .0), leb-true n MOST (h .1))
+
+pub fits-not : (n head len : ℕ) → listed n ≡ false → Tells false (Fit n head len)
+fits-not n head len l = tells-no (λ f. not-both (rw (le-leb 1 n (f .some), le-leb n MOST (f .most))) l)
+
+pub fits-last : (n head len : ℕ) → listed n ≡ true → head < n → Tells (leb len n) (Fit n head len)
+fits-last n head len l c =
+    let h = listed-both n l in
     tells-by (leb len n)
-    (λ e. record { some = a; most = b; headed = c; within = leb-true len n e })
+    (λ e. record { some = h .0; most = h .1; headed = c; within = leb-true len n e })
     (λ e f. let g = leb-false len n e in omega arith)
 
-pub new-small : (n : ℕ) (q : RunQueue) → n < 1 → q .span .n ≡ 1 → q .span .head ≡ 0 → q .span .len ≡ 0 → Makes ring q (refused 2) (newStep n)
-unfolding newStep
-new-small n q h en eh el =
-    record { reply = rw (lt-leb 1 n h); after = rw (lt-leb 1 n h) (view-empty q 1 en el); sound = omega arith }
+-- a ring of one place, or of a listed number, of which nothing is used
+fresh-is : (n : ℕ) (q : RunQueue) → 1 ≤ n → n ≤ MOST → q .span ≡ record { n = n; head = 0; len = 0 } → (view q ≡ ringOf n []) × Sound q
+fresh-is n q g h e =
+    let en : q .span .n ≡ n = ap (λ (s : Span). s .n) e in
+    let eh : q .span .head ≡ 0 = ap (λ (s : Span). s .head) e in
+    let el : q .span .len ≡ 0 = ap (λ (s : Span). s .len) e in (
+      view-empty q n en el,
+      record { some = omega arith; most = omega arith; headed = omega arith; within = omega arith },
+    )
 
-pub new-large : (n : ℕ) (q : RunQueue) → 1 ≤ n → 64 < n → q .span .n ≡ 1 → q .span .head ≡ 0 → q .span .len ≡ 0 → Makes ring q (refused 2) (newStep n)
+pub new-bad : (n : ℕ) (q : RunQueue) → listed n ≡ false → q .span ≡ record { n = 1; head = 0; len = 0 } → Makes ring q (refused 2) (newStep n)
 unfolding newStep
-new-large n q g h en eh el =
-    record {
-      reply = rw (le-leb 1 n g, lt-leb n 64 h);
-      after = rw (le-leb 1 n g, lt-leb n 64 h) (view-empty q 1 en el);
-      sound = omega arith;
-    }
+new-bad n q l e = let f = fresh-is 1 q (omega arith) (omega arith) e in record { reply = rw l; after = rw l (f .0); sound = f .1 }
 
-pub new-done : (n : ℕ) (q : RunQueue) → 1 ≤ n → n ≤ 64 → q .span .n ≡ n → q .span .head ≡ 0 → q .span .len ≡ 0 → Makes ring q done (newStep n)
+pub new-done : (n : ℕ) (q : RunQueue) → listed n ≡ true → q .span ≡ record { n = n; head = 0; len = 0 } → Makes ring q done (newStep n)
 unfolding newStep
-new-done n q g h en eh el =
-    record {
-      reply = rw (le-leb 1 n g, le-leb n 64 h);
-      after = rw (le-leb 1 n g, le-leb n 64 h) (view-empty q n en el);
-      sound = omega arith;
-    }
+new-done n q l e =
+    let h = listed-both n l in
+    let f = fresh-is n q (h .0) (h .1) e in record { reply = rw l; after = rw l (f .0); sound = f .1 }
+
+-- a size that will not do leaves what lay there
+pub new-left : (n : ℕ) (q : RunQueue) → listed n ≡ false → MakesAt ring q q (refused 2) (newStep n)
+unfolding newStep
+new-left n q l = leaves-at ring q 2 _ (rw l)
 
 -- READING
 

@@ -4,7 +4,7 @@ use Prim.Native.Nat.{ℕ}
 use denote.Ref.{RefT, now}
 use denote.Triple.Both.{Both}
 use Rattle.answers.specs.Reply.{Reply}
-use Rattle.answers.specs.Contract.{Step, Does, Meets, Answers}
+use Rattle.answers.specs.Contract.{Step, MakesAt, Does, Meets, Answers}
 use Rattle.runqueue.specs.declared.Span.{Span}
 use Rattle.runqueue.specs.declared.RunQueue.{RunQueue}
 use Rattle.runqueue.specs.Ring.{Ring, view, ring}
@@ -24,6 +24,10 @@ DoesLent slots epochs span u got step = let q = lent (slots .entry) (epochs .ent
 
 abbrev pub MeetsLent : Changed → Changed → Span → Span → Reply → (Ring → Step Ring) → Type 0
 MeetsLent slots epochs span u got step = let q = lent (slots .entry) (epochs .entry) span in Meets ring q (lent (slots .exit) (epochs .exit) u) got (step (view q))
+
+-- of a maker: what lay there before, and what lies there now
+abbrev pub MakesLent : Changed → Changed → Span → Span → Reply → Step Ring → Type 0
+MakesLent slots epochs span u got want = MakesAt ring (lent (slots .entry) (epochs .entry) span) (lent (slots .exit) (epochs .exit) u) got want
 
 -- of a call that only reads
 abbrev pub AnswersLent : {A B : Type 0} → Both (RefT (List ℕ)) A → Both (RefT (List ℕ)) B → Span → Reply → (Ring → Reply) → Type 0

@@ -2,10 +2,11 @@
 ghost use mathlib.Core.Path.{_≡_};
 ghost use Prim.Native.Nat.{_+_, _<_};
 ghost use Rattle.lists.specs.Tells.{Tells};
+ghost use Rattle.answers.specs.Sizes.{listed};
 ghost use Rattle.answers.specs.Answers.{ackReply, toldReply, countReply, namedReply};
 ghost use Rattle.answers.specs.Contract.{Makes, Meets, Answers};
 ghost use Rattle.runqueue.specs.Ring.{placed, view, Fit, Sound, ring};
-ghost use Rattle.runqueue.specs.Lent.{lent, DoesLent, MeetsLent, AnswersLent, AnswersAny};
+ghost use Rattle.runqueue.specs.Lent.{lent, MakesLent, DoesLent, MeetsLent, AnswersLent, AnswersAny};
 ghost use Rattle.runqueue.specs.Steps.{requeued, newStep, enqueueStep, dequeueStep, afterYieldStep, frontReply, readyAtReply, lenReply, emptyReply, fullReply, capacityReply};
 use answers::Ack;
 use answers::Count;
@@ -71,14 +72,21 @@ pub fn place(n: usize, x: usize) -> usize
     x - n
 }
 
-// The test of a ring's numbers: its entries may be anything.
-fn is_fit(n: usize, head: usize, len: usize) -> bool
-    ensures { λ r. ⌜ Tells r (Fit n head len) ⌝ }
+// Whether a ring, and a task table, can have n places.
+pub fn is_listed(n: usize) -> bool
+    ensures { λ r. ⌜ r ≡ listed n ⌝ }
 {
     if n < 1 {
         return false;
     }
-    if 64 < n {
+    n <= 64
+}
+
+// The test of a ring's numbers: its entries may be anything.
+fn is_fit(n: usize, head: usize, len: usize) -> bool
+    ensures { λ r. ⌜ Tells r (Fit n head len) ⌝ }
+{
+    if !is_listed(n) {
         return false;
     }
     if n <= head {
@@ -100,24 +108,18 @@ fn new_span(n: usize) -> Span
     }
 }
 
-// A ring is made where its entries lie.
-pub fn new_at(slots: &mut [u16; 64], epochs: &mut [u16; 64], n: usize) -> LentAck
-    ensures { λ r. ⌜ Makes ring (lent (slots .exit) (epochs .exit) (r .span)) (ackReply (r .answer)) (newStep n) ⌝ }
+// A ring is made where its entries lie; beside BadSize what lay there stays.
+pub fn new_at(slots: &mut [u16; 64], epochs: &mut [u16; 64], span: Span, n: usize) -> LentAck
+    ensures { λ r. ⌜ MakesLent slots epochs span (r .span) (ackReply (r .answer)) (newStep n) ⌝ }
 {
+    if !is_listed(n) {
+        return LentAck {
+            span: span,
+            answer: Ack::Refused(Refusal::BadSize),
+        };
+    }
     *slots = [0; 64];
     *epochs = [0; 64];
-    if n < 1 {
-        return LentAck {
-            span: new_span(1),
-            answer: Ack::Refused(Refusal::BadSize),
-        };
-    }
-    if 64 < n {
-        return LentAck {
-            span: new_span(1),
-            answer: Ack::Refused(Refusal::BadSize),
-        };
-    }
     LentAck {
         span: new_span(n),
         answer: Ack::Done,
@@ -309,18 +311,25 @@ impl RunQueue {
     pub fn new(n: usize) -> Queued
         ensures { λ r. ⌜ Makes ring (r .queue) (ackReply (r .answer)) (newStep n) ⌝ }
     {
-        let mut slots = [0u16; 64];
-        let mut epochs = [0u16; 64];
-        let made = new_at(&mut slots, &mut epochs, n);
-        let span = made.span;
-        let answer = made.answer;
+        if !is_listed(n) {
+            return Queued {
+                queue: RunQueue::empty(1),
+                answer: Ack::Refused(Refusal::BadSize),
+            };
+        }
         Queued {
-            queue: RunQueue {
-                span: span,
-                slots: slots,
-                epochs: epochs,
-            },
-            answer: answer,
+            queue: RunQueue::empty(n),
+            answer: Ack::Done,
+        }
+    }
+
+    fn empty(n: usize) -> RunQueue
+        ensures { λ r. ⌜ r .span ≡ record { n = n; head = 0; len = 0 } ⌝ }
+    {
+        RunQueue {
+            span: new_span(n),
+            slots: [0; 64],
+            epochs: [0; 64],
         }
     }
 

@@ -15,10 +15,11 @@ use borrow.Author.Tests.{lt-ltb, le-ltb, ltb-true, ltb-false, eq-eqb, ne-eqb}
 use Rattle.lists.specs.Tells.{Tells}
 use Rattle.lists.proofs.Basics.{tells-by}
 use Rattle.answers.specs.Reply.{refused, done, told, number, value}
-use Rattle.answers.specs.Contract.{Makes, Does, Answers}
-use Rattle.answers.proofs.Returns.{answers, does-keep, does}
+use Rattle.answers.specs.Contract.{Makes, MakesAt, Does, Answers}
+use Rattle.answers.proofs.Returns.{answers, does-keep, does, leaves-at}
 use Rattle.runqueue.specs.Ring.{placed, around}
 use Rattle.runqueue.proofs.RingLaws.{around-length, around-none, around-push, around-pop}
+use Rattle.wake.specs.declared.Ends.{Ends}
 use Rattle.wake.specs.declared.WakeQueue.{WakeQueue}
 use Rattle.wake.specs.Queue.{listed, held, view, Fit, Sound, wakes}
 use Rattle.wake.specs.Steps.{queueOf, fresh, DROPS, newStep, pushStep, popOf, popStep, dropsReply, emptyReply}
@@ -70,21 +71,30 @@ pub fit-last : (c head tail : ℕ) → listed c ≡ true → head < c → Tells 
 fit-last c head tail a b =
     tells-by (ltb tail c) (λ e. record { size = a; headed = b; tailed = ltb-true tail c e }) (λ e f. let g = ltb-false tail c e in omega arith)
 
-fresh-is : (c : ℕ) (q : WakeQueue) → listed c ≡ true → q .ends .c ≡ c → q .ends .head ≡ 0 → q .ends .tail ≡ 0 → q .ends .drops ≡ 0 → (view q ≡ fresh c) × Sound q
-fresh-is c q l ec eh et ed =
+fresh-is : (c : ℕ) (q : WakeQueue) → listed c ≡ true → q .ends ≡ record { c = c; head = 0; tail = 0; drops = 0 } → (view q ≡ fresh c) × Sound q
+fresh-is c q l e =
+    let ec : q .ends .c ≡ c = ap (λ (s : Ends). s .c) e in
+    let eh : q .ends .head ≡ 0 = ap (λ (s : Ends). s .head) e in
+    let et : q .ends .tail ≡ 0 = ap (λ (s : Ends). s .tail) e in
+    let ed : q .ends .drops ≡ 0 = ap (λ (s : Ends). s .drops) e in
     let s = listed-small c l in
     let z = none-held (q .ends .c) (q .ends .head) (q .ends .tail) (omega arith) (omega arith) (eh ∙ sym et) in (
       ap₂ (λ a t. queueOf a t (view q .drops)) (view-c q ∙ ec) (view-none q z) ∙ ap (λ d. queueOf c [] d) (view-drops q ∙ ed),
       record { size = rw ec l; headed = omega arith; tailed = omega arith },
     )
 
-pub new-bad : (c : ℕ) (q : WakeQueue) → listed c ≡ false → q .ends .c ≡ 2 → q .ends .head ≡ 0 → q .ends .tail ≡ 0 → q .ends .drops ≡ 0 → Makes wakes q (refused 2) (newStep c)
+pub new-bad : (c : ℕ) (q : WakeQueue) → listed c ≡ false → q .ends ≡ record { c = 2; head = 0; tail = 0; drops = 0 } → Makes wakes q (refused 2) (newStep c)
 unfolding newStep listed
-new-bad c q l ec eh et ed = let f = fresh-is 2 q refl ec eh et ed in record { reply = rw l; after = rw l (f .0); sound = f .1 }
+new-bad c q l e = let f = fresh-is 2 q refl e in record { reply = rw l; after = rw l (f .0); sound = f .1 }
 
-pub new-done : (c : ℕ) (q : WakeQueue) → listed c ≡ true → q .ends .c ≡ c → q .ends .head ≡ 0 → q .ends .tail ≡ 0 → q .ends .drops ≡ 0 → Makes wakes q done (newStep c)
+pub new-done : (c : ℕ) (q : WakeQueue) → listed c ≡ true → q .ends ≡ record { c = c; head = 0; tail = 0; drops = 0 } → Makes wakes q done (newStep c)
 unfolding newStep
-new-done c q l ec eh et ed = let f = fresh-is c q l ec eh et ed in record { reply = rw l; after = rw l (f .0); sound = f .1 }
+new-done c q l e = let f = fresh-is c q l e in record { reply = rw l; after = rw l (f .0); sound = f .1 }
+
+-- a size that will not do leaves what lay there
+pub new-left : (c : ℕ) (q : WakeQueue) → listed c ≡ false → MakesAt wakes q q (refused 2) (newStep c)
+unfolding newStep
+new-left c q l = leaves-at wakes q 2 _ (rw l)
 
 module _ (q : WakeQueue) (s : Sound q) where
   pub drops-is : Answers wakes q (number (q .ends .drops)) (dropsReply (view q))

@@ -4,7 +4,7 @@ use Prim.Native.Nat.{ℕ}
 use denote.Ref.{RefT, now}
 use denote.Triple.Both.{Both}
 use Rattle.answers.specs.Reply.{Reply}
-use Rattle.answers.specs.Contract.{Step, Does, Meets, Answers}
+use Rattle.answers.specs.Contract.{Step, MakesAt, Does, Meets, Answers}
 use Rattle.wake.specs.declared.Ends.{Ends}
 use Rattle.wake.specs.declared.WakeQueue.{WakeQueue}
 use Rattle.wake.specs.Queue.{Queue, view, wakes}
@@ -21,6 +21,10 @@ DoesLent tokens ends u got step = let q = lent (tokens .entry) ends in Does wake
 
 abbrev pub MeetsLent : Both (RefT (List ℕ)) (RefT (List ℕ)) → Ends → Ends → Reply → (Queue → Step Queue) → Type 0
 MeetsLent tokens ends u got step = let q = lent (tokens .entry) ends in Meets wakes q (lent (tokens .exit) u) got (step (view q))
+
+-- of a maker: what lay there before, and what lies there now
+abbrev pub MakesLent : Both (RefT (List ℕ)) (RefT (List ℕ)) → Ends → Ends → Reply → Step Queue → Type 0
+MakesLent tokens ends u got want = MakesAt wakes (lent (tokens .entry) ends) (lent (tokens .exit) u) got want
 
 -- of one that asks for the ends alone: whatever the tokens are
 abbrev pub AnswersAny : Ends → Reply → (Queue → Reply) → Type 0

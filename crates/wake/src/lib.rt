@@ -5,7 +5,7 @@ ghost use Rattle.lists.specs.Tells.{Tells};
 ghost use Rattle.answers.specs.Answers.{ackReply, toldReply, countReply};
 ghost use Rattle.answers.specs.Contract.{Makes, Meets, Answers};
 ghost use Rattle.wake.specs.Queue.{listed, Fit, view, Sound, wakes};
-ghost use Rattle.wake.specs.Lent.{lent, DoesLent, MeetsLent, AnswersAny};
+ghost use Rattle.wake.specs.Lent.{lent, MakesLent, DoesLent, MeetsLent, AnswersAny};
 ghost use Rattle.wake.specs.Steps.{poppedReply, newStep, pushStep, popStep, dropsReply, emptyReply};
 use answers::Ack;
 use answers::Count;
@@ -105,17 +105,17 @@ fn new_ends(c: usize) -> Ends
     }
 }
 
-// A queue is made where its tokens lie.
-pub fn new_at(tokens: &mut [u32; 64], c: usize) -> LentAck
-    ensures { λ r. ⌜ Makes wakes (lent (tokens .exit) (r .ends)) (ackReply (r .answer)) (newStep c) ⌝ }
+// A queue is made where its tokens lie; beside BadSize what lay there stays.
+pub fn new_at(tokens: &mut [u32; 64], ends: Ends, c: usize) -> LentAck
+    ensures { λ r. ⌜ MakesLent tokens ends (r .ends) (ackReply (r .answer)) (newStep c) ⌝ }
 {
-    *tokens = [0; 64];
     if !is_listed(c) {
         return LentAck {
-            ends: new_ends(2),
+            ends: ends,
             answer: Ack::Refused(Refusal::BadSize),
         };
     }
+    *tokens = [0; 64];
     LentAck {
         ends: new_ends(c),
         answer: Ack::Done,
@@ -220,16 +220,24 @@ impl WakeQueue {
     pub fn new(c: usize) -> Made
         ensures { λ r. ⌜ Makes wakes (r .queue) (ackReply (r .answer)) (newStep c) ⌝ }
     {
-        let mut tokens = [0u32; 64];
-        let made = new_at(&mut tokens, c);
-        let ends = made.ends;
-        let answer = made.answer;
+        if !is_listed(c) {
+            return Made {
+                queue: WakeQueue::empty(2),
+                answer: Ack::Refused(Refusal::BadSize),
+            };
+        }
         Made {
-            queue: WakeQueue {
-                ends: ends,
-                tokens: tokens,
-            },
-            answer: answer,
+            queue: WakeQueue::empty(c),
+            answer: Ack::Done,
+        }
+    }
+
+    fn empty(c: usize) -> WakeQueue
+        ensures { λ r. ⌜ r .ends ≡ record { c = c; head = 0; tail = 0; drops = 0 } ⌝ }
+    {
+        WakeQueue {
+            ends: new_ends(c),
+            tokens: [0; 64],
         }
     }
 
