@@ -1,11 +1,13 @@
 // What calls answer. A call that makes or changes a table answers beside the table, so the answers hold no table.
+#![tactic(auto)]
+
 ghost use Rattle.std.specs.Prelude.{◌≡◌};
 ghost use Rattle.answers.specs.Answers.{refusal_no};
 
 use ids::TaskId;
 
 // Why a call refuses. The order of the variants is that of their numbers.
-#[derive(Drop)]
+#[derive(Clone, Copy)]
 pub enum Refusal {
     BadTable,
     BadSize,
@@ -46,28 +48,28 @@ impl Refusal {
 }
 
 // Done, with nothing to tell.
-#[derive(Drop)]
+#[derive(Clone, Copy)]
 pub enum Ack {
     Done,
     Refused(Refusal),
 }
 
 // True or false.
-#[derive(Drop)]
+#[derive(Clone, Copy)]
 pub enum Told {
     Is(bool),
     Refused(Refusal),
 }
 
 // A number.
-#[derive(Drop)]
+#[derive(Clone, Copy)]
 pub enum Count {
     Is(u64),
     Refused(Refusal),
 }
 
 // A task, or none.
-#[derive(Drop)]
+#[derive(Clone, Copy)]
 pub enum Named {
     Id(TaskId),
     Nothing,
@@ -75,7 +77,7 @@ pub enum Named {
 }
 
 // What a slot of a task table is.
-#[derive(Drop)]
+#[derive(Clone, Copy)]
 pub enum State {
     Empty,
     Ready,
@@ -84,7 +86,7 @@ pub enum State {
 }
 
 // A state, or none.
-#[derive(Drop)]
+#[derive(Clone, Copy)]
 pub enum Stated {
     Is(State),
     Nothing,
@@ -92,7 +94,7 @@ pub enum Stated {
 }
 
 // A CPU, or none.
-#[derive(Drop)]
+#[derive(Clone, Copy)]
 pub enum Homed {
     Cpu(u8),
     Nothing,

@@ -12,7 +12,7 @@ use parktime::Table;
 
 // The deadlines, beside what the call answers.
 #[repr(C)]
-#[derive(Drop)]
+#[derive(Clone, Copy)]
 pub struct DeadlinesAnswer {
     pub table: Table,
     pub answer: Answer,

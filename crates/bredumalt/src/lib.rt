@@ -1,5 +1,7 @@
 // The calls over the C boundary. A table's arrays cross as pointers and are changed where they lie; its small part goes in and comes
 // back by value; an answer is numbers. Every call is a checked one, so it takes any bits whatever.
+#![tactic(auto)]
+
 pub mod deadlines;
 pub mod ring;
 pub mod small; // ids and verdicts, with no table

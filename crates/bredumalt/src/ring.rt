@@ -13,7 +13,7 @@ use runqueue::Span;
 
 // The span, beside what the call answers.
 #[repr(C)]
-#[derive(Drop)]
+#[derive(Clone, Copy)]
 pub struct SpanAnswer {
     pub span: Span,
     pub answer: Answer,

@@ -2,7 +2,7 @@
 ghost use Rattle.model.specs.Steps.{new_step, start_step, start_cpu_step, admit_step, mark_step, wake_step, collect_step};
 ghost use Rattle.model.specs.Switch.{try_steal_step, switch_step};
 ghost use Rattle.memory.specs.View.{Sound};
-ghost use Rattle.memory.specs.Lent.{was, MakesLent, MeetsLent};
+ghost use Rattle.memory.specs.Lent.{stays, MakesLent, MeetsLent};
 ghost use Rattle.numbers.specs.Numbers.{Crossed};
 ghost use Rattle.numbers.specs.Operands.{kind_named, flag_named};
 ghost use Rattle.bredumalt.specs.Named.{MeetsLentNamed, TellsByte};
@@ -14,7 +14,7 @@ use numbers::{Answer, Asked, Flagged};
 
 // The small part, beside what the call answers.
 #[repr(C)]
-#[derive(Drop)]
+#[derive(Clone, Copy)]
 pub struct SmallAnswer {
     pub small: Small,
     pub answer: Answer,
@@ -62,7 +62,7 @@ pub extern "C" fn bredumalt_tasks_sound_at<'a>(
     ring_epochs: &'a [u16; 128],
     small: Small,
 ) -> u8
-    ensures { TellsByte result (Sound (was states epochs homes marks ring_slots ring_epochs small)) }
+    ensures { TellsByte result (Sound (stays states epochs homes marks ring_slots ring_epochs small)) }
 {
     numbers::byte(checks::sound_at(states, epochs, homes, marks, ring_slots, ring_epochs, small))
 }

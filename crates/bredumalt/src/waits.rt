@@ -3,7 +3,7 @@ ghost use Rattle.answers.specs.Reply.{done};
 ghost use Rattle.answers.specs.Contract.{Makes};
 ghost use Rattle.irqwait.specs.Waits.{Sound, waits};
 ghost use Rattle.irqwait.specs.Steps.{new_step, arm_step, disarm_step, signal_step, take_step, pending_reply};
-ghost use Rattle.irqwait.specs.Lent.{lent, was, MeetsLent, AnswersLent};
+ghost use Rattle.irqwait.specs.Lent.{whole, lent, MeetsLent, AnswersLent};
 ghost use Rattle.numbers.specs.Numbers.{Crossed};
 ghost use Rattle.bredumalt.specs.Named.{TellsByte};
 
@@ -13,14 +13,14 @@ use numbers::Answer;
 
 // An array can't cross by value, a struct that holds one can.
 #[repr(C)]
-#[derive(Drop)]
+#[derive(Clone, Copy)]
 pub struct Waiters {
     pub all: [Waiter; 8],
 }
 
 // The waiters, beside what the call answers.
 #[repr(C)]
-#[derive(Drop)]
+#[derive(Clone, Copy)]
 pub struct WaitersAnswer {
     pub waiters: Waiters,
     pub answer: Answer,
@@ -47,7 +47,7 @@ pub extern "C" fn bredumalt_irqwait_sound_at<'a>(
     epochs: &'a [u16; 64],
     waiters: Waiters,
 ) -> u8
-    ensures { TellsByte result (Sound (was pending slots epochs waiters.all)) }
+    ensures { TellsByte result (Sound (whole pending.now slots.now epochs.now waiters.all)) }
 {
     let all = waiters.all;
     numbers::byte(irqwait::sound_at(pending, slots, epochs, all))

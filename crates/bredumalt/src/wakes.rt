@@ -11,7 +11,7 @@ use wake::Ends;
 
 // The ends, beside what the call answers.
 #[repr(C)]
-#[derive(Drop)]
+#[derive(Clone, Copy)]
 pub struct EndsAnswer {
     pub ends: Ends,
     pub answer: Answer,

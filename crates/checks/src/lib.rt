@@ -1,12 +1,14 @@
 // The test of a whole task table, in one pass over the queues and one over the slots. The long arrays are lent, so that a
 // call that holds the table pays for no copy of it.
+#![tactic(auto)]
+
 ghost use Rattle.std.specs.Prelude.{◌≡◌, ℕ, ◌<◌, ◌≤◌, Bool, true, slice_index};
 ghost use Rattle.lists.specs.Tells.{Tells};
 ghost use Rattle.ids.specs.Id.{EPOCHS};
 ghost use Rattle.runqueue.specs.Ring.{Fit};
 ghost use Rattle.model.specs.Model.{MOST, CPUS, RUNNING};
 ghost use Rattle.memory.specs.View.{Sound};
-ghost use Rattle.memory.specs.Lent.{was};
+ghost use Rattle.memory.specs.Lent.{whole};
 ghost use Rattle.checks.specs.Walk.{Notes};
 ghost use Rattle.checks.specs.Parts.{RingsFit, noted, Homed, Free, entry_at, entries, QueueFits, queue_notes, QueuesFit, queues_notes, IdleFits, OnFits, CpuFits, cpu_notes, CpusFit, cpus_notes, asked, Misfits, SlotsFit, ParkFits, LiveFits, SlotBlank, CpuBlank, FreshFits};
 
@@ -19,7 +21,7 @@ const STATES: u8 = 4;
 const HOMES: u8 = 2;
 
 // Whether every slot is as it should be, and how many are not Empty.
-#[derive(Drop)]
+#[derive(Clone, Copy)]
 struct Slots {
     good: bool,
     used: u8,
@@ -489,7 +491,7 @@ pub fn sound_at<'a>(
     ring_epochs: &'a [u16; 128],
     rest: Small,
 ) -> bool
-    ensures { Tells result (Sound (was states epochs homes marks ring_slots ring_epochs rest)) }
+    ensures { Tells result (Sound (whole states.now epochs.now homes.now marks.now ring_slots.now ring_epochs.now rest)) }
 {
     typed(states, epochs, homes, marks, ring_slots, ring_epochs);
     let heads = rest.heads;

@@ -2,28 +2,30 @@
 // output is made by the crates `place` and `script`; the theorem `whole` of crate `output` says that the pieces are the output that
 // document 01 asks for. Where reading or writing fails, the program stops there and says so on standard error: nobody takes a part of
 // a script for the whole.
+#![tactic(auto)]
+
 ghost use Rattle.std.specs.Prelude.{◌≤◌, length};
 
-use libc::{STDERR_FILENO, STDIN_FILENO, STDOUT_FILENO};
+use std::io::{Read, Stdin};
+use std::process::ExitCode;
 
 // How many bytes were read, and whether they are all that there are or that the buffer takes.
-#[derive(Drop)]
+#[derive(Clone, Copy)]
 struct Input {
     n: usize,
     whole: bool,
 }
 
 // Reads until the input ends or the buffer is full. A read that fails is no end.
-fn read_input(buf: &mut [u8]) -> Input
+fn read_input(from: Stdin, buf: &mut [u8]) -> Input
     ensures { result.n ≤ length buf.new }
 {
+    let mut from = from;
     let mut n = 0;
     while n < buf.len() {
-        let got = libc::read(STDIN_FILENO, &mut buf[n..]);
-        if got < 0 {
+        let Ok(more) = from.read(&mut buf[n..]) else {
             return Input { n: n, whole: false };
-        }
-        let more = io::count(got, &buf[n..]);
+        };
         if more == 0 {
             return Input { n: n, whole: true };
         }
@@ -33,31 +35,39 @@ fn read_input(buf: &mut [u8]) -> Input
 }
 
 // Whether all was written.
-fn write(text: &[u8]) -> bool {
-    if io::write_all(STDOUT_FILENO, text) {
+fn write(rt: &(impl Print + Eprint), text: &[u8]) -> bool {
+    if rt.write_all(text).is_ok() {
         return true;
     }
-    io::write_all(STDERR_FILENO, b"events: standard output can't be written\n");
+    let _told = rt.eprintln("events: standard output can't be written");
     false
 }
 
-fn main() {
+// Fails where not all was written.
+fn status(written: bool) -> ExitCode {
+    if written {
+        ExitCode::SUCCESS
+    } else {
+        ExitCode::FAILURE
+    }
+}
+
+fn main(rt: HostRuntime) -> ExitCode {
     // one byte more than a script may have, so that a longer one shows
     let mut input = [0u8; 65537];
-    let read = read_input(&mut input);
+    let read = read_input(rt.stdin(), &mut input);
     if !read.whole {
-        io::write_all(STDERR_FILENO, b"events: standard input can't be read\n");
-        return;
+        let _told = rt.eprintln("events: standard input can't be read");
+        return ExitCode::FAILURE;
     }
     let mut out = [0u8; 16384];
     let opened = place::header(&mut out);
-    if !write(words::head(&out, opened)) {
-        return;
+    if !write(&rt, words::head(&out, opened)) {
+        return ExitCode::FAILURE;
     }
     if place::too_long(read.n) {
         let refused = place::refusal(&mut out);
-        write(words::head(&out, refused));
-        return;
+        return status(write(&rt, words::head(&out, refused)));
     }
     let text = words::head(&input, read.n);
     let mut here = place::begin();
@@ -65,11 +75,11 @@ fn main() {
     while at < text.len() {
         here = script::chunk(text, here, &mut out);
         let used = here.used;
-        if !write(words::head(&out, used)) {
-            return;
+        if !write(&rt, words::head(&out, used)) {
+            return ExitCode::FAILURE;
         }
         at = here.at;
     }
     let last = place::finish(&mut out, here);
-    write(words::head(&out, last));
+    status(write(&rt, words::head(&out, last)))
 }

@@ -1,11 +1,13 @@
 // Names of tasks. A slot is used by one tenant after another, and the epoch says which of them is meant: a wake for
 // a task that has ended must not reach the next tenant of its slot.
+#![tactic(auto)]
+
 ghost use Rattle.std.specs.Prelude.{◌≡◌};
 ghost use Rattle.ids.specs.Id.{packed, unpacked, same_id};
 
 // The structs of the product are laid out as C lays them out, so that firmware can pass them.
 #[repr(C)]
-#[derive(Drop)]
+#[derive(Clone, Copy)]
 pub struct TaskId {
     pub slot: u16,
     pub epoch: u16,
@@ -13,7 +15,7 @@ pub struct TaskId {
 
 // A packed task id, as it travels through the wake queue.
 #[repr(C)]
-#[derive(Drop)]
+#[derive(Clone, Copy)]
 pub struct Token(pub u32);
 
 impl TaskId {

@@ -1,4 +1,6 @@
 // Interrupt waits: which task waits for which interrupt, and which tasks have an interrupt that they have not taken yet.
+#![tactic(auto)]
+
 ghost use Rattle.std.specs.Prelude.{◌≡◌, ◌<◌};
 ghost use Rattle.lists.specs.Tells.{Tells};
 ghost use Rattle.lists.specs.Search.{first_at};
@@ -7,7 +9,7 @@ ghost use Rattle.answers.specs.Reply.{done};
 ghost use Rattle.answers.specs.Answers.{ack_reply, told_reply, named_reply};
 ghost use Rattle.answers.specs.Contract.{Makes, Meets, Answers};
 ghost use Rattle.irqwait.specs.Waits.{MARKS, waits_of, wait_of, mark_at, view, is_for, has_cookie, is_mark, WaitersFit, MarksFit, Sound, waits};
-ghost use Rattle.irqwait.specs.Lent.{lent, was, DoesLent, MeetsLent, AnswersLent};
+ghost use Rattle.irqwait.specs.Lent.{whole, lent, DoesLent, MeetsLent, AnswersLent};
 ghost use Rattle.irqwait.specs.Steps.{refusal_of, walk, new_step, arm_step, disarm_step, signal_step, take_step, pending_reply};
 
 use answers::{Ack, Named, Refusal, Told};
@@ -19,12 +21,12 @@ pub const MAX_TASK_IDS: usize = 64;
 
 // The name of an interrupt. A type of its own, so that no token can be passed where a cookie is asked.
 #[repr(C)]
-#[derive(Drop)]
+#[derive(Clone, Copy)]
 pub struct Cookie(pub u32);
 
 // One task that waits. `live` is a flag in a byte: 0 or 1 in a sound table.
 #[repr(C)]
-#[derive(Drop)]
+#[derive(Clone, Copy)]
 pub struct Waiter {
     pub live: u8,
     pub cookie: Cookie,
@@ -34,7 +36,7 @@ pub struct Waiter {
 // Who waits, and for each slot whether an interrupt has come for a task of it: a flag, and the whole id, so that the next tenant
 // of the slot can't take it. The marks are three arrays of numbers, so that they can be lent.
 #[repr(C)]
-#[derive(Drop)]
+#[derive(Clone, Copy)]
 pub struct WaitTable {
     pub waiters: [Waiter; 8],
     pub pending: [u8; 64],
@@ -43,38 +45,38 @@ pub struct WaitTable {
 }
 
 // The table, beside what a call that changed it answers: done, true or false, a task.
-#[derive(Drop)]
+#[derive(Clone, Copy)]
 pub struct Armed {
     pub table: WaitTable,
     pub answer: Ack,
 }
 
-#[derive(Drop)]
+#[derive(Clone, Copy)]
 pub struct Took {
     pub table: WaitTable,
     pub answer: Told,
 }
 
-#[derive(Drop)]
+#[derive(Clone, Copy)]
 pub struct Signalled {
     pub table: WaitTable,
     pub answer: Named,
 }
 
 // The same of a call whose marks are lent: they are changed where they lie, and the waiters come back.
-#[derive(Drop)]
+#[derive(Clone, Copy)]
 pub struct LentAck {
     pub waiters: [Waiter; 8],
     pub answer: Ack,
 }
 
-#[derive(Drop)]
+#[derive(Clone, Copy)]
 pub struct LentTold {
     pub waiters: [Waiter; 8],
     pub answer: Told,
 }
 
-#[derive(Drop)]
+#[derive(Clone, Copy)]
 pub struct LentNamed {
     pub waiters: [Waiter; 8],
     pub answer: Named,
@@ -385,7 +387,7 @@ pub fn sound_at<'a>(
     epochs: &'a [u16; 64],
     waiters: [Waiter; 8],
 ) -> bool
-    ensures { Tells result (Sound (was pending slots epochs waiters)) }
+    ensures { Tells result (Sound (whole pending.now slots.now epochs.now waiters)) }
 {
     if !waiters_sound(waiters) {
         return false;

@@ -1,4 +1,6 @@
 // The calls of the leaf modules and of lifecycle at their edges, a line for each group.
+#![tactic(auto)]
+
 pub mod life;
 pub mod parks;
 pub mod ring;

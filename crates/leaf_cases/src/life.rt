@@ -2,50 +2,50 @@
 use answers::State;
 use lifecycle::{CancelVerdict, ForceError, ForceVerdict, ReapError, ReapVerdict, Target};
 
-fn reap(v: ReapVerdict) {
+fn reap(rt: &impl Print, v: ReapVerdict) {
     match v {
-        ReapVerdict::Cancel => say::text(b" Cancel"),
+        ReapVerdict::Cancel => say::text(rt, b" Cancel"),
         ReapVerdict::Refuse(why) => match why {
-            ReapError::Idle => say::text(b" Idle"),
-            ReapError::BadId => say::text(b" BadId"),
-            ReapError::NotBlocked => say::text(b" NotBlocked"),
+            ReapError::Idle => say::text(rt, b" Idle"),
+            ReapError::BadId => say::text(rt, b" BadId"),
+            ReapError::NotBlocked => say::text(rt, b" NotBlocked"),
         },
     }
 }
 
-fn force(v: ForceVerdict) {
+fn force(rt: &impl Print, v: ForceVerdict) {
     match v {
-        ForceVerdict::FlagAndCancel => say::text(b" FlagAndCancel"),
-        ForceVerdict::FlagAndNudge => say::text(b" FlagAndNudge"),
+        ForceVerdict::FlagAndCancel => say::text(rt, b" FlagAndCancel"),
+        ForceVerdict::FlagAndNudge => say::text(rt, b" FlagAndNudge"),
         ForceVerdict::Refuse(why) => match why {
-            ForceError::Idle => say::text(b" Idle"),
-            ForceError::BadId => say::text(b" BadId"),
-            ForceError::Empty => say::text(b" Empty"),
+            ForceError::Idle => say::text(rt, b" Idle"),
+            ForceError::BadId => say::text(rt, b" BadId"),
+            ForceError::Empty => say::text(rt, b" Empty"),
         },
     }
 }
 
-fn cancel(v: CancelVerdict) {
+fn cancel(rt: &impl Print, v: CancelVerdict) {
     match v {
-        CancelVerdict::MarkAndWake => say::text(b" MarkAndWake"),
-        CancelVerdict::Refuse => say::text(b" Refuse"),
+        CancelVerdict::MarkAndWake => say::text(rt, b" MarkAndWake"),
+        CancelVerdict::Refuse => say::text(rt, b" Refuse"),
     }
 }
 
-fn all(target: Target) {
-    reap(lifecycle::reap(false, target));
-    reap(lifecycle::reap(true, target));
-    force(lifecycle::force(false, target));
-    force(lifecycle::force(true, target));
-    cancel(lifecycle::cancel(target));
+fn all(rt: &impl Print, target: Target) {
+    reap(rt, lifecycle::reap(false, target));
+    reap(rt, lifecycle::reap(true, target));
+    force(rt, lifecycle::force(false, target));
+    force(rt, lifecycle::force(true, target));
+    cancel(rt, lifecycle::cancel(target));
 }
 
-pub fn every_state() {
-    say::text(b"life");
-    all(Target::Unknown);
-    all(Target::Is(State::Empty));
-    all(Target::Is(State::Ready));
-    all(Target::Is(State::Running));
-    all(Target::Is(State::Blocked));
-    say::end();
+pub fn every_state(rt: &impl Print) {
+    say::text(rt, b"life");
+    all(rt, Target::Unknown);
+    all(rt, Target::Is(State::Empty));
+    all(rt, Target::Is(State::Ready));
+    all(rt, Target::Is(State::Running));
+    all(rt, Target::Is(State::Blocked));
+    say::end(rt);
 }

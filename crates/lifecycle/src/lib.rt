@@ -1,44 +1,46 @@
 // What a supervisor may do to a task, from two facts about it: whether it is an idle, and its state, if its id is known.
+#![tactic(auto)]
+
 ghost use Rattle.std.specs.Prelude.{◌≡◌};
 ghost use Rattle.lifecycle.specs.Verdicts.{reap_of, force_of, cancel_of, target_state, reap_verdict, force_verdict, cancel_verdict};
 
 use answers::State;
 
 // The state of the task that an id names, or that it names none.
-#[derive(Drop)]
+#[derive(Clone, Copy)]
 pub enum Target {
     Is(State),
     Unknown,
 }
 
-#[derive(Drop)]
+#[derive(Clone, Copy)]
 pub enum ReapError {
     Idle,
     BadId,
     NotBlocked,
 }
 
-#[derive(Drop)]
+#[derive(Clone, Copy)]
 pub enum ForceError {
     Idle,
     BadId,
     Empty,
 }
 
-#[derive(Drop)]
+#[derive(Clone, Copy)]
 pub enum ReapVerdict {
     Cancel,
     Refuse(ReapError),
 }
 
-#[derive(Drop)]
+#[derive(Clone, Copy)]
 pub enum ForceVerdict {
     FlagAndCancel,
     FlagAndNudge,
     Refuse(ForceError),
 }
 
-#[derive(Drop)]
+#[derive(Clone, Copy)]
 pub enum CancelVerdict {
     MarkAndWake,
     Refuse,

@@ -1,4 +1,6 @@
 // A line of a script, read: which call it asks for, on which table.
+#![tactic(auto)]
+
 ghost use Rattle.std.specs.Prelude.{◌≡◌};
 ghost use Rattle.text.specs.Text.{bytes};
 ghost use Rattle.model.specs.Calls as task;
@@ -25,7 +27,7 @@ const MAX_TOKEN: u64 = 4294967295;
 
 const MAX_TIME: u64 = 18446744073709551615;
 
-#[derive(Drop)]
+#[derive(Clone, Copy)]
 pub enum TaskCall {
     Start,
     Start1,
@@ -37,7 +39,7 @@ pub enum TaskCall {
     Collect,
 }
 
-#[derive(Drop)]
+#[derive(Clone, Copy)]
 pub enum WaitCall {
     Arm(Cookie, TaskId),
     Disarm(TaskId),
@@ -45,20 +47,20 @@ pub enum WaitCall {
     Take(TaskId),
 }
 
-#[derive(Drop)]
+#[derive(Clone, Copy)]
 pub enum DeadlineCall {
     Arm(TaskId, u64),
     Disarm(TaskId),
 }
 
-#[derive(Drop)]
+#[derive(Clone, Copy)]
 pub enum WakeCall {
     Push(Token),
     Pop,
 }
 
 // A poll stands apart: it alone is lent an output.
-#[derive(Drop)]
+#[derive(Clone, Copy)]
 pub enum Line {
     New(u16),
     Tasks(TaskCall),

@@ -1,1 +1,2 @@
 // Definitions and laws on lists that every crate above shares. There is no code here.
+#![tactic(auto)]

@@ -1,5 +1,7 @@
 // The task table in memory: one record, with states, epochs, homes and marks side by side, and beside the arrays the small part that
 // is handed on by value. The arrays are arrays of numbers, so that they can be lent: an inner call stores into them in place.
+#![tactic(auto)]
+
 ghost use Rattle.std.specs.Prelude.{◌≡◌, ◌+◌, ◌*◌, ◌≤◌, ◌<◌};
 ghost use Rattle.lists.specs.Flags.{FLAGS};
 ghost use Rattle.lists.specs.Search.{one_if};
@@ -28,7 +30,7 @@ pub const BLOCKED: u8 = 3;
 
 // The table without its arrays. A flag is a byte: 0 or 1 in a sound table, as a state is one of the four codes.
 #[repr(C)]
-#[derive(Drop)]
+#[derive(Clone, Copy)]
 pub struct Small {
     pub n: usize,
     pub heads: [usize; 2],
@@ -45,7 +47,7 @@ pub struct Small {
 // Of the 64 places for slots only the first n count. The ring of CPU c stands at c * 64, in two arrays: the slots of the ids
 // and their epochs.
 #[repr(C)]
-#[derive(Drop)]
+#[derive(Clone, Copy)]
 pub struct Tasks {
     pub small: Small,
     pub states: [u8; 64],
@@ -57,38 +59,38 @@ pub struct Tasks {
 }
 
 // A table, beside what the call that made or changed it answers: done, true or false, a task.
-#[derive(Drop)]
+#[derive(Clone, Copy)]
 pub struct Acked {
     pub tasks: Tasks,
     pub answer: Ack,
 }
 
-#[derive(Drop)]
+#[derive(Clone, Copy)]
 pub struct Said {
     pub tasks: Tasks,
     pub answer: Told,
 }
 
-#[derive(Drop)]
+#[derive(Clone, Copy)]
 pub struct Gave {
     pub tasks: Tasks,
     pub answer: Named,
 }
 
 // The same of a call whose arrays are lent: they are changed where they lie, and the small part comes back.
-#[derive(Drop)]
+#[derive(Clone, Copy)]
 pub struct LentAck {
     pub small: Small,
     pub answer: Ack,
 }
 
-#[derive(Drop)]
+#[derive(Clone, Copy)]
 pub struct LentTold {
     pub small: Small,
     pub answer: Told,
 }
 
-#[derive(Drop)]
+#[derive(Clone, Copy)]
 pub struct LentNamed {
     pub small: Small,
     pub answer: Named,

@@ -1,5 +1,7 @@
 // The calls that change a task table, but stealing and switching, for callers that know the table to be sound. The arrays are lent
 // and changed where they lie; the small part goes in and comes back.
+#![tactic(auto)]
+
 ghost use Rattle.std.specs.Prelude.{◌≡◌, ◌<◌};
 ghost use Rattle.answers.specs.Answers.{ack_reply, told_reply, named_reply};
 ghost use Rattle.model.specs.Model.{CPUS, tenant};
@@ -12,7 +14,7 @@ use ids::TaskId;
 use memory::{LentAck, LentNamed, LentTold, Small};
 
 // The small part of a table, beside the task that a slot of it has become.
-#[derive(Drop)]
+#[derive(Clone, Copy)]
 struct Claimed {
     small: Small,
     id: TaskId,

@@ -1,4 +1,6 @@
 // Answers and operands as numbers: no enum can cross the C boundary.
+#![tactic(auto)]
+
 ghost use Rattle.std.specs.Prelude.{◌≡◌};
 ghost use Rattle.std.proofs.Math.Option.{some};
 ghost use Rattle.lists.specs.Search.{one_if};
@@ -22,7 +24,7 @@ use wake::Popped;
 // none, 4 a value (number) or none, 5 stay, 6 a switch from `first` to `second`, with `third` to release or none. The flag says
 // whether there is one, as a byte: 0 or 1.
 #[repr(C)]
-#[derive(Drop)]
+#[derive(Clone, Copy)]
 pub struct Answer {
     pub refusal: u8,
     pub kind: u8,
@@ -34,14 +36,14 @@ pub struct Answer {
 }
 
 // A kind of switch, if the number asked for names one.
-#[derive(Drop)]
+#[derive(Clone, Copy)]
 pub enum Asked {
     Is(Kind),
     Nothing,
 }
 
 // True or false, if the byte names one of them.
-#[derive(Drop)]
+#[derive(Clone, Copy)]
 pub enum Flagged {
     Is(bool),
     Nothing,

@@ -1,4 +1,6 @@
 // Deadlines of parked tasks: sixteen entries, which go in and come back as one value.
+#![tactic(auto)]
+
 ghost use Rattle.std.specs.Prelude.{◌≡◌};
 ghost use Rattle.lists.specs.Tells.{Tells};
 ghost use Rattle.lists.specs.Search.{first_at};
@@ -16,7 +18,7 @@ pub const MAX_ARMED: usize = 16;
 
 // `live` is a flag in a byte: 0 or 1 in a sound table.
 #[repr(C)]
-#[derive(Drop)]
+#[derive(Clone, Copy)]
 pub struct Entry {
     pub live: u8,
     pub task: TaskId,
@@ -24,20 +26,20 @@ pub struct Entry {
 }
 
 #[repr(C)]
-#[derive(Drop)]
+#[derive(Clone, Copy)]
 pub struct Table {
     pub entries: [Entry; 16],
 }
 
 // The deadlines, beside what a call that changed them answers.
-#[derive(Drop)]
+#[derive(Clone, Copy)]
 pub struct Armed {
     pub table: Table,
     pub answer: Ack,
 }
 
 // The deadlines that are left, beside how many had come.
-#[derive(Drop)]
+#[derive(Clone, Copy)]
 pub struct Polled {
     pub table: Table,
     pub answer: Count,
@@ -84,6 +86,14 @@ impl Table {
     // Whether every flag is one, and no task has two deadlines.
     pub fn sound(self) -> bool
         ensures { Tells result (Sound self) }
+    {
+        self.fits()
+    }
+
+    // The test, where the table lies. It is a call of its own: in line with what stands after it, it would cost the caller stack.
+    #[inline(never)]
+    fn fits(&self) -> bool
+        ensures { Tells result (Sound self.now) }
     {
         let mut i = 0;
         while i < MAX_ARMED {
@@ -140,7 +150,7 @@ impl Table {
     pub fn arm(self, task: TaskId, deadline: u64) -> Armed
         ensures { Meets deadlines self result.table (ack_reply result.answer) (arm_step (view self) task deadline) }
     {
-        if !self.sound() {
+        if !self.fits() {
             return Armed {
                 table: self,
                 answer: Ack::Refused(Refusal::BadTable),
@@ -184,7 +194,7 @@ impl Table {
     pub fn disarm(self, task: TaskId) -> Armed
         ensures { Meets deadlines self result.table (ack_reply result.answer) (disarm_step (view self) task) }
     {
-        if !self.sound() {
+        if !self.fits() {
             return Armed {
                 table: self,
                 answer: Ack::Refused(Refusal::BadTable),
@@ -197,6 +207,19 @@ impl Table {
         requires { Sound self }
         ensures { Does deadlines self result.table (ack_reply result.answer) (disarm_step (view self) task) }
     {
+        self.free(task);
+        Armed {
+            table: self,
+            answer: Ack::Done,
+        }
+    }
+
+    // Frees every entry of the task, where the table lies; a call of its own, as `fits` is.
+    #[inline(never)]
+    fn free(&mut self, task: TaskId)
+        requires { Sound self.old }
+        ensures { Does deadlines self.old self.new done (disarm_step (view self.old) task) }
+    {
         let mut i = 0;
         while i < MAX_ARMED {
             let e = self.entries[i];
@@ -205,17 +228,13 @@ impl Table {
             }
             i = i + 1;
         }
-        Armed {
-            table: self,
-            answer: Ack::Done,
-        }
     }
 
     // Drops every deadline that has come and writes the raw ids of their tasks to the start of out, in entry order.
     pub fn poll(self, now: u64, out: &mut [u32]) -> Polled
         ensures { Meets (lent deadlines) (self, out.old) (result.table, out.new) (count_reply result.answer) (poll_step (view self, out.old) now) }
     {
-        if !self.sound() {
+        if !self.fits() {
             return Polled {
                 table: self,
                 answer: Count::Refused(Refusal::BadTable),

@@ -1,4 +1,6 @@
 // How far a script has come: where it begins, its next line, its last line of output.
+#![tactic(auto)]
+
 ghost use Rattle.std.specs.Prelude.{◌≡◌, ◌≤◌, ◌<◌, ◌+◌, ◌-◌, ltb, length, drop};
 ghost use Rattle.runs.specs.Tables.{fresh};
 ghost use Rattle.runs.specs.Outcomes.{AllSound, view};
@@ -20,7 +22,7 @@ use wake::WakeQueue;
 pub const INPUT_MOST: usize = 65536;
 
 // How far a script has come: the index of the next line, the lines read, how much of the buffer is used, and the tables.
-#[derive(Drop)]
+#[derive(Clone, Copy)]
 pub struct Place {
     pub at: usize,
     pub number: u64,
@@ -32,7 +34,7 @@ pub struct Place {
 }
 
 // A line that was read, and the index after it.
-#[derive(Drop)]
+#[derive(Clone, Copy)]
 pub struct Ahead {
     pub line: Line,
     pub at: usize,

@@ -1,5 +1,7 @@
 // Answers as text, in a buffer that the caller lends. Each function writes from the index `at` on, and returns the index after
 // what it wrote.
+#![tactic(auto)]
+
 ghost use Rattle.std.specs.Prelude.{[], ◌++◌, ◌≤◌, ◌<◌, ◌+◌, length, take};
 ghost use Rattle.answers.specs.Answers.{refusal_no, ack_reply, told_reply, count_reply, named_reply};
 ghost use Rattle.switch.specs.Decisions.{release_of, decision_reply};
@@ -16,7 +18,7 @@ use switch::{Decision, Release};
 use wake::Popped;
 
 // What a line of a script answered, other than a poll.
-#[derive(Drop)]
+#[derive(Clone, Copy)]
 pub enum Answer {
     Ack(Ack),
     Told(Told),

@@ -1,10 +1,12 @@
 // What a table tells, for callers that know it to be sound. The arrays are lent to be read.
+#![tactic(auto)]
+
 ghost use Rattle.std.specs.Prelude.{◌≡◌, ◌<◌};
 ghost use Rattle.answers.specs.Answers.{state_no, told_reply, count_reply, named_reply, stated_reply, homed_reply};
 ghost use Rattle.model.specs.Model.{STATES};
 ghost use Rattle.model.specs.Reads.{current_reply, idle_reply, ready_reply, started_reply, state_reply, home_reply, live_reply, stealeable_reply, can_steal_reply, overwrites_reply, blocked_reply, block_events_reply, live_count_reply, peak_reply};
 ghost use Rattle.memory.specs.View.{Sound};
-ghost use Rattle.memory.specs.Lent.{lent, ReadsLent};
+ghost use Rattle.memory.specs.Lent.{shown, ReadsLent};
 
 use answers::{Count, Homed, Named, Refusal, State, Stated, Told};
 use ids::TaskId;
@@ -20,7 +22,7 @@ pub fn current_on_in<'a>(
     s: Small,
     cpu: u8,
 ) -> Named
-    requires { Sound (lent states epochs homes marks ring_slots ring_epochs s) }
+    requires { Sound (shown states epochs homes marks ring_slots ring_epochs s) }
     ensures { ReadsLent states epochs homes marks ring_slots ring_epochs s (named_reply result) (λ m. current_reply m cpu) }
 {
     let c = cpu as usize;
@@ -41,7 +43,7 @@ pub fn idle_of_in<'a>(
     s: Small,
     cpu: u8,
 ) -> Named
-    requires { Sound (lent states epochs homes marks ring_slots ring_epochs s) }
+    requires { Sound (shown states epochs homes marks ring_slots ring_epochs s) }
     ensures { ReadsLent states epochs homes marks ring_slots ring_epochs s (named_reply result) (λ m. idle_reply m cpu) }
 {
     let c = cpu as usize;
@@ -63,7 +65,7 @@ pub fn has_ready_on_in<'a>(
     s: Small,
     cpu: u8,
 ) -> Told
-    requires { Sound (lent states epochs homes marks ring_slots ring_epochs s) }
+    requires { Sound (shown states epochs homes marks ring_slots ring_epochs s) }
     ensures { ReadsLent states epochs homes marks ring_slots ring_epochs s (told_reply result) (λ m. ready_reply m cpu) }
 {
     let c = cpu as usize;
@@ -82,7 +84,7 @@ pub fn cpu1_started_in<'a>(
     ring_epochs: &'a [u16; 128],
     s: Small,
 ) -> Told
-    requires { Sound (lent states epochs homes marks ring_slots ring_epochs s) }
+    requires { Sound (shown states epochs homes marks ring_slots ring_epochs s) }
     ensures { ReadsLent states epochs homes marks ring_slots ring_epochs s (told_reply result) (λ m. started_reply m 1) }
 {
     let idle = s.idles[1];
@@ -116,7 +118,7 @@ pub fn state_in<'a>(
     s: Small,
     id: TaskId,
 ) -> Stated
-    requires { Sound (lent states epochs homes marks ring_slots ring_epochs s) }
+    requires { Sound (shown states epochs homes marks ring_slots ring_epochs s) }
     ensures { ReadsLent states epochs homes marks ring_slots ring_epochs s (stated_reply result) (λ m. state_reply m id) }
 {
     if !scans::known(epochs, s.n, id) {
@@ -136,7 +138,7 @@ pub fn home_of_in<'a>(
     s: Small,
     id: TaskId,
 ) -> Homed
-    requires { Sound (lent states epochs homes marks ring_slots ring_epochs s) }
+    requires { Sound (shown states epochs homes marks ring_slots ring_epochs s) }
     ensures { ReadsLent states epochs homes marks ring_slots ring_epochs s (homed_reply result) (λ m. home_reply m id) }
 {
     if !scans::known(epochs, s.n, id) {
@@ -157,7 +159,7 @@ pub fn live_id_in<'a>(
     s: Small,
     slot: usize,
 ) -> Named
-    requires { Sound (lent states epochs homes marks ring_slots ring_epochs s) }
+    requires { Sound (shown states epochs homes marks ring_slots ring_epochs s) }
     ensures { ReadsLent states epochs homes marks ring_slots ring_epochs s (named_reply result) (λ m. live_reply m slot) }
 {
     if s.n <= slot {
@@ -183,7 +185,7 @@ pub fn is_stealeable_in<'a>(
     s: Small,
     id: TaskId,
 ) -> Told
-    requires { Sound (lent states epochs homes marks ring_slots ring_epochs s) }
+    requires { Sound (shown states epochs homes marks ring_slots ring_epochs s) }
     ensures { ReadsLent states epochs homes marks ring_slots ring_epochs s (told_reply result) (λ m. stealeable_reply m id) }
 {
     let idles = s.idles;
@@ -201,7 +203,7 @@ pub fn can_steal_into_in<'a>(
     s: Small,
     thief: u8,
 ) -> Told
-    requires { Sound (lent states epochs homes marks ring_slots ring_epochs s) }
+    requires { Sound (shown states epochs homes marks ring_slots ring_epochs s) }
     ensures { ReadsLent states epochs homes marks ring_slots ring_epochs s (told_reply result) (λ m. can_steal_reply m thief) }
 {
     let c = thief as usize;
@@ -240,7 +242,7 @@ pub fn overwrites_in<'a>(
     ring_epochs: &'a [u16; 128],
     s: Small,
 ) -> Count
-    requires { Sound (lent states epochs homes marks ring_slots ring_epochs s) }
+    requires { Sound (shown states epochs homes marks ring_slots ring_epochs s) }
     ensures { ReadsLent states epochs homes marks ring_slots ring_epochs s (count_reply result) overwrites_reply }
 {
     Count::Is(s.overwrites as u64)
@@ -255,7 +257,7 @@ pub fn blocked_count_in<'a>(
     ring_epochs: &'a [u16; 128],
     s: Small,
 ) -> Count
-    requires { Sound (lent states epochs homes marks ring_slots ring_epochs s) }
+    requires { Sound (shown states epochs homes marks ring_slots ring_epochs s) }
     ensures { ReadsLent states epochs homes marks ring_slots ring_epochs s (count_reply result) blocked_reply }
 {
     let k = scans::blocked(states, s.n);
@@ -272,7 +274,7 @@ pub fn block_events_in<'a>(
     ring_epochs: &'a [u16; 128],
     s: Small,
 ) -> Count
-    requires { Sound (lent states epochs homes marks ring_slots ring_epochs s) }
+    requires { Sound (shown states epochs homes marks ring_slots ring_epochs s) }
     ensures { ReadsLent states epochs homes marks ring_slots ring_epochs s (count_reply result) block_events_reply }
 {
     Count::Is(s.block_events as u64)
@@ -288,7 +290,7 @@ pub fn live_count_in<'a>(
     ring_epochs: &'a [u16; 128],
     s: Small,
 ) -> Count
-    requires { Sound (lent states epochs homes marks ring_slots ring_epochs s) }
+    requires { Sound (shown states epochs homes marks ring_slots ring_epochs s) }
     ensures { ReadsLent states epochs homes marks ring_slots ring_epochs s (count_reply result) live_count_reply }
 {
     let k = scans::occupied(states, s.n);
@@ -305,7 +307,7 @@ pub fn peak_slots_in<'a>(
     ring_epochs: &'a [u16; 128],
     s: Small,
 ) -> Count
-    requires { Sound (lent states epochs homes marks ring_slots ring_epochs s) }
+    requires { Sound (shown states epochs homes marks ring_slots ring_epochs s) }
     ensures { ReadsLent states epochs homes marks ring_slots ring_epochs s (count_reply result) peak_reply }
 {
     Count::Is(s.peak as u64)

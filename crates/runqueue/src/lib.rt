@@ -1,4 +1,6 @@
 // The FIFO ring of ready tasks: it orders them and does nothing else.
+#![tactic(auto)]
+
 ghost use Rattle.std.specs.Prelude.{◌≡◌, ◌+◌, ◌<◌};
 ghost use Rattle.lists.specs.Tells.{Tells};
 ghost use Rattle.answers.specs.Sizes.{listed};
@@ -13,7 +15,7 @@ use ids::TaskId;
 
 // The ring without its entries: how many places count, where the head is, how many are queued.
 #[repr(C)]
-#[derive(Drop)]
+#[derive(Clone, Copy)]
 pub struct Span {
     pub n: usize,
     pub head: usize,
@@ -22,7 +24,7 @@ pub struct Span {
 
 // Of the 64 places only the first n count. An id is kept in its two halves, so that an array of them can be lent.
 #[repr(C)]
-#[derive(Drop)]
+#[derive(Clone, Copy)]
 pub struct RunQueue {
     pub span: Span,
     pub slots: [u16; 64],
@@ -30,34 +32,34 @@ pub struct RunQueue {
 }
 
 // A ring, beside what the call that made or filled it answers.
-#[derive(Drop)]
+#[derive(Clone, Copy)]
 pub struct Queued {
     pub queue: RunQueue,
     pub answer: Ack,
 }
 
 // A ring, beside the task that was taken from it.
-#[derive(Drop)]
+#[derive(Clone, Copy)]
 pub struct Taken {
     pub queue: RunQueue,
     pub answer: Named,
 }
 
 // The same of a call whose entries are lent: they are changed where they lie, and the span comes back.
-#[derive(Drop)]
+#[derive(Clone, Copy)]
 pub struct LentAck {
     pub span: Span,
     pub answer: Ack,
 }
 
-#[derive(Drop)]
+#[derive(Clone, Copy)]
 pub struct LentNamed {
     pub span: Span,
     pub answer: Named,
 }
 
 // Who goes to the tail before the head is taken.
-#[derive(Drop)]
+#[derive(Clone, Copy)]
 pub enum Requeue {
     Id(TaskId),
     Nothing,

@@ -1,125 +1,127 @@
-// Answers in writing: a word or a number after a space, an answer by its number or its value.
+// Answers in writing: a word or a number after a space, an answer by its number or its value. A write that fails is let go, since
+// the whole output is held to the stored one.
+#![tactic(auto)]
+
 use answers::{Ack, Count, Homed, Named, Refusal, State, Stated, Told};
 use ids::TaskId;
-use libc::STDOUT_FILENO;
 use switch::{Decision, Release};
 use wake::Popped;
 
-pub fn text(s: &[u8]) {
-    let _written = io::write_all(STDOUT_FILENO, s);
+pub fn text(rt: &impl Print, s: &[u8]) {
+    let _written = rt.write_all(s);
 }
 
-pub fn end() {
-    text(b"\n");
+pub fn end(rt: &impl Print) {
+    text(rt, b"\n");
 }
 
-pub fn number(n: u64) {
-    text(b" ");
-    let _written = io::print_decimal(STDOUT_FILENO, n);
+pub fn number(rt: &impl Print, n: u64) {
+    text(rt, b" ");
+    let _written = rt.print(n);
 }
 
 // A word of an output, as it stands.
-pub fn raw(n: u32) {
-    number(n as u64);
+pub fn raw(rt: &impl Print, n: u32) {
+    number(rt, n as u64);
 }
 
-fn refusal(why: Refusal) {
-    text(b" !");
+fn refusal(rt: &impl Print, why: Refusal) {
+    text(rt, b" !");
     let n = why.number();
-    let _written = io::print_decimal(STDOUT_FILENO, n as u64);
+    let _written = rt.print(n as u64);
 }
 
-pub fn truth(b: bool) {
+pub fn truth(rt: &impl Print, b: bool) {
     if b {
-        text(b" true");
+        text(rt, b" true");
     } else {
-        text(b" false");
+        text(rt, b" false");
     }
 }
 
-pub fn id(t: TaskId) {
-    number(t.slot as u64);
-    text(b"/");
-    let _written = io::print_decimal(STDOUT_FILENO, t.epoch as u64);
+pub fn id(rt: &impl Print, t: TaskId) {
+    number(rt, t.slot as u64);
+    text(rt, b"/");
+    let _written = rt.print(t.epoch as u64);
 }
 
-pub fn ack(a: Ack) {
+pub fn ack(rt: &impl Print, a: Ack) {
     match a {
-        Ack::Done => text(b" ok"),
-        Ack::Refused(why) => refusal(why),
+        Ack::Done => text(rt, b" ok"),
+        Ack::Refused(why) => refusal(rt, why),
     }
 }
 
-pub fn told(a: Told) {
+pub fn told(rt: &impl Print, a: Told) {
     match a {
-        Told::Is(b) => truth(b),
-        Told::Refused(why) => refusal(why),
+        Told::Is(b) => truth(rt, b),
+        Told::Refused(why) => refusal(rt, why),
     }
 }
 
-pub fn count(a: Count) {
+pub fn count(rt: &impl Print, a: Count) {
     match a {
-        Count::Is(n) => number(n),
-        Count::Refused(why) => refusal(why),
+        Count::Is(n) => number(rt, n),
+        Count::Refused(why) => refusal(rt, why),
     }
 }
 
-pub fn named(a: Named) {
+pub fn named(rt: &impl Print, a: Named) {
     match a {
-        Named::Id(t) => id(t),
-        Named::Nothing => text(b" -"),
-        Named::Refused(why) => refusal(why),
+        Named::Id(t) => id(rt, t),
+        Named::Nothing => text(rt, b" -"),
+        Named::Refused(why) => refusal(rt, why),
     }
 }
 
-pub fn popped(a: Popped) {
+pub fn popped(rt: &impl Print, a: Popped) {
     match a {
-        Popped::Token(t) => number(t.0 as u64),
-        Popped::Nothing => text(b" -"),
-        Popped::Refused(why) => refusal(why),
+        Popped::Token(t) => number(rt, t.0 as u64),
+        Popped::Nothing => text(rt, b" -"),
+        Popped::Refused(why) => refusal(rt, why),
     }
 }
 
-pub fn state(s: State) {
+pub fn state(rt: &impl Print, s: State) {
     match s {
-        State::Empty => text(b" Empty"),
-        State::Ready => text(b" Ready"),
-        State::Running => text(b" Running"),
-        State::Blocked => text(b" Blocked"),
+        State::Empty => text(rt, b" Empty"),
+        State::Ready => text(rt, b" Ready"),
+        State::Running => text(rt, b" Running"),
+        State::Blocked => text(rt, b" Blocked"),
     }
 }
 
-pub fn stated(a: Stated) {
+pub fn stated(rt: &impl Print, a: Stated) {
     match a {
-        Stated::Is(s) => state(s),
-        Stated::Nothing => text(b" -"),
-        Stated::Refused(why) => refusal(why),
+        Stated::Is(s) => state(rt, s),
+        Stated::Nothing => text(rt, b" -"),
+        Stated::Refused(why) => refusal(rt, why),
     }
 }
 
-pub fn homed(a: Homed) {
+pub fn homed(rt: &impl Print, a: Homed) {
     match a {
-        Homed::Cpu(c) => number(c as u64),
-        Homed::Nothing => text(b" -"),
-        Homed::Refused(why) => refusal(why),
+        Homed::Cpu(c) => number(rt, c as u64),
+        Homed::Nothing => text(rt, b" -"),
+        Homed::Refused(why) => refusal(rt, why),
     }
 }
 
-fn release(r: Release) {
+fn release(rt: &impl Print, r: Release) {
     match r {
-        Release::Id(t) => id(t),
-        Release::Nothing => text(b" -"),
+        Release::Id(t) => id(rt, t),
+        Release::Nothing => text(rt, b" -"),
     }
 }
 
-pub fn decision(d: Decision) {
+pub fn decision(rt: &impl Print, d: Decision) {
     match d {
-        Decision::Stay => text(b" stay"),
+        Decision::Stay => text(rt, b" stay"),
         Decision::Switch(from, to, rest) => {
-            id(from);
-            id(to);
-            release(rest);
+            id(rt, from);
+            id(rt, to);
+            release(rt, rest);
         }
-        Decision::Refused(why) => refusal(why),
+        Decision::Refused(why) => refusal(rt, why),
     }
 }

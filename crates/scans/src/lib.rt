@@ -1,4 +1,6 @@
 // Readings of a table's arrays, lent: numbers in, numbers out, so that no call copies a table to look at it.
+#![tactic(auto)]
+
 ghost use Rattle.std.specs.Prelude.{◌≡◌, ℕ, ◌≤◌, max, length};
 ghost use Rattle.memory.specs.Parts.{known_in, idle_in, stealeable_in, free_in, occupied_in, blocked_in};
 ghost use Rattle.scans.specs.Slots.{LowestEmpty};

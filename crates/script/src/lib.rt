@@ -1,6 +1,8 @@
 // A script, run: lines are read, played on the four tables and answered into a lent buffer, as many as it has room for. The
 // tables are taken apart: their arrays are locals that each kind of line lends to its inner call, so that no line copies them.
 // Waiters and deadlines, which are few, go in and come back by value.
+#![tactic(auto)]
+
 ghost use Rattle.std.specs.Prelude.{◌≤◌, length};
 ghost use Rattle.runs.specs.Outcomes.{AllSound};
 ghost use Rattle.output.specs.Output.{INPUT};

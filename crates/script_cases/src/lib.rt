@@ -1,13 +1,14 @@
 // The script program at its edges, a line for each group: its name, then each line of the output after a bar.
+#![tactic(auto)]
 
 // Each line of a text after a bar.
-fn bars(text: &[u8]) {
+fn bars(rt: &impl Print, text: &[u8]) {
     let mut at = 0;
     while at < text.len() {
         let rest = &text[at..];
         let e = words::until(rest, b'\n');
-        say::text(b" | ");
-        say::text(words::head(rest, e));
+        say::text(rt, b" | ");
+        say::text(rt, words::head(rest, e));
         if text.len() - at <= e {
             return;
         }
@@ -17,12 +18,12 @@ fn bars(text: &[u8]) {
 
 // What `events` does with a script, but for a buffer that has room for one line of output only: so each line of a script is a
 // piece of its own here, where `events` has thousands in one.
-fn line(name: &[u8], input: &[u8]) {
-    say::text(b"script ");
-    say::text(name);
-    say::text(b" | events 1");
+fn line(rt: &impl Print, name: &[u8], input: &[u8]) {
+    say::text(rt, b"script ");
+    say::text(rt, name);
+    say::text(rt, b" | events 1");
     if place::too_long(input.len()) {
-        say::text(b" | 0 13\n");
+        say::text(rt, b" | 0 13\n");
         return;
     }
     let mut out = [0u8; 256];
@@ -31,29 +32,29 @@ fn line(name: &[u8], input: &[u8]) {
     while at < input.len() {
         here = script::chunk(input, here, &mut out);
         let used = here.used;
-        bars(words::head(&out, used));
+        bars(rt, words::head(&out, used));
         at = here.at;
     }
     let last = place::finish(&mut out, here);
-    bars(words::head(&out, last));
-    say::end();
+    bars(rt, words::head(&out, last));
+    say::end(rt);
 }
 
 // A name, a colon and a script.
-fn named(text: &[u8]) {
+fn named(rt: &impl Print, text: &[u8]) {
     let e = words::until(text, b':');
     if e < text.len() {
-        line(words::head(text, e), words::rest(text, e));
+        line(rt, words::head(text, e), words::rest(text, e));
     }
 }
 
 // Named scripts, a tilde after each. They stand in few byte strings, since each call costs the check half a second.
-fn scripts(all: &[u8]) {
+fn scripts(rt: &impl Print, all: &[u8]) {
     let mut at = 0;
     while at < all.len() {
         let rest = &all[at..];
         let e = words::until(rest, b'~');
-        named(words::head(rest, e));
+        named(rt, words::head(rest, e));
         if all.len() - at <= e {
             return;
         }
@@ -61,17 +62,18 @@ fn scripts(all: &[u8]) {
     }
 }
 
-pub fn every_group() {
-    reading();
-    fields();
-    tables();
-    long();
+pub fn every_group(rt: &impl Print) {
+    reading(rt);
+    fields(rt);
+    tables(rt);
+    long(rt);
 }
 
 // How a script falls into lines, and a line into words.
-fn reading() {
+fn reading(rt: &impl Print) {
     // where a script and its lines end
     scripts(
+        rt,
         b"empty:~\
         lone feed:\n~\
         no last feed:start\nadmit 0~\
@@ -80,6 +82,7 @@ fn reading() {
     );
     // a line of 80 bytes is read, with or without its line feed, and one of 81 is not
     scripts(
+        rt,
         b"80 bytes:push 000000000000000000000000000000000000000000000000000000000000000000000000007\npop\n~\
         80 bytes at the end:pop\npush 000000000000000000000000000000000000000000000000000000000000000000000000007~\
         81 bytes:push 0000000000000000000000000000000000000000000000000000000000000000000000000007\npop\n~\
@@ -87,6 +90,7 @@ fn reading() {
     );
     // words stand one space apart and are spelled as document 01 has them
     scripts(
+        rt,
         b"spaces:start\n admit 0\nadmit 0 \nadmit  0\n \nadmit\t0\nadmit 0\t\nadmit 0\n~\
         bytes:\x00\n\xff\nstart\x00\n\xffstart\nst\x00art\nadmit \xff\nadmit 0\x00\nstart\n~\
         upper case:START\nStart\nstart\nadmit 0\nswitch 0 Yield\nmark 1/0 YES\nmark 1/0 yes\n~\
@@ -94,6 +98,7 @@ fn reading() {
     );
     // each command has its own number of words
     scripts(
+        rt,
         b"missing words:new\nadmit\nswitch\nswitch 0\nmark\nmark 1/0\nsteal\nwake\nirq\nirq 1\nunirq\nsignal\ntake\n\
             park\npark 1/0\nunpark\npoll\npush\n~\
         extra words:new 4 4\nstart 0\nstart1 1\nadmit 0 0\nswitch 0 yield 0\nmark 1/0 yes no\nsteal 0 0\n\
@@ -104,9 +109,10 @@ fn reading() {
 }
 
 // What stands in a field.
-fn fields() {
+fn fields(rt: &impl Print) {
     // numbers and ids that can be read, and that cannot
     scripts(
+        rt,
         b"zeros:new 00004\nstart\nadmit 0000\nswitch 000 yield\nmark 001/0000000 yes\nirq 00000000007 01/00\n\
             signal 007\npush 00000000000009\npop\n~\
         not numbers:push -1\npush +1\npush 0x1\npush 1.\npush 1a\npush a\npush :\npush /\npush 1_0\npop\n~\
@@ -115,6 +121,7 @@ fn fields() {
     );
     // each field's largest number, and one more
     scripts(
+        rt,
         b"N:new 0\nnew 1\nnew 64\nnew 65\nnew 65535\nnew 65536\n~\
         CPU:start\nadmit 255\nadmit 256\nsteal 255\nsteal 256\nswitch 255 exit\nswitch 256 exit\n~\
         id:park 65535/65535 1\npark 65536/0 1\npark 0/65536 1\npoll 1\nirq 1 63/65535\nirq 2 64/0\nsignal 1\n~\
@@ -126,9 +133,10 @@ fn fields() {
 }
 
 // What lines do to the tables.
-fn tables() {
+fn tables(rt: &impl Print) {
     // what a `new` leaves: everything where it is refused, nothing where it works
     scripts(
+        rt,
         b"new refused:new 4\nstart\nadmit 0\nadmit 0\nirq 3 1/0\npark 1/0 5\npush 9\nnew 65\nnew 0\nnew 65536\nstart\n\
             signal 3\npoll 5\npop\nadmit 0\nadmit 0\n~\
         new works:new 4\nstart\nadmit 0\nadmit 0\nirq 3 1/0\npark 1/0 5\npush 9\nnew 2\nsignal 3\ntake 1/0\npoll 5\n\
@@ -137,6 +145,7 @@ fn tables() {
     );
     // the refusals of the calls, and which comes first
     scripts(
+        rt,
         b"early:start1\nadmit 0\nadmit 2\nswitch 1 yield\nmark 0/0 yes\nsteal 0\nwake 0/0\ncollect\nswitch 1 run\n\
             start\nstart\n~\
         CPU off:start\nswitch 1 yield\nswitch 2 yield\nadmit 1\nswitch 1 yield\nstart1\nswitch 1 yield\nstart1\n~\
@@ -145,6 +154,7 @@ fn tables() {
     );
     // document 01's example, every command once, and the longest line of output
     scripts(
+        rt,
         b"document 01:new 4\nstart\nadmit 0\nswitch 0 yield\nswitch 0 exit\ncollect\n~\
         task commands:new 5\nstart\nstart1\nadmit 0\nmark 2/0 yes\nsteal 1\nswitch 1 yield\nswitch 1 preempt\n\
             switch 1 yield\nswitch 1 block\nwake 2/0\nswitch 1 yield\nswitch 1 exit\ncollect\n~\
@@ -158,6 +168,7 @@ fn tables() {
     );
     // the last line with 0 to 4 tasks, and with tasks that ended
     scripts(
+        rt,
         b"0 tasks:new 8\n~\
         1 task:new 8\nstart\n~\
         2 tasks:new 8\nstart\nadmit 0\n~\
@@ -168,7 +179,7 @@ fn tables() {
 }
 
 // The longest input and one byte more. Its first three lines are thousands of bytes long, the last one is `pop`.
-fn long() {
+fn long(rt: &impl Print) {
     let mut input = [b'7'; 65537];
     input[20000] = b'\n';
     input[40000] = b'\n';
@@ -176,7 +187,7 @@ fn long() {
     input[65533] = b'p';
     input[65534] = b'o';
     input[65535] = b'p';
-    line(b"65535 bytes", words::head(&input, 65535));
-    line(b"65536 bytes", words::head(&input, 65536));
-    line(b"65537 bytes", &input);
+    line(rt, b"65535 bytes", words::head(&input, 65535));
+    line(rt, b"65536 bytes", words::head(&input, 65536));
+    line(rt, b"65537 bytes", &input);
 }

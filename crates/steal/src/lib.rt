@@ -1,4 +1,6 @@
 // Stealing: a CPU whose queue is empty takes the first stealeable task of its peer's queue.
+#![tactic(auto)]
+
 ghost use Rattle.std.specs.Prelude.{◌≡◌, true, ◌≤◌, ◌<◌, get_or};
 ghost use Rattle.answers.specs.Answers.{told_reply};
 ghost use Rattle.model.specs.Model.{CPUS, started};
@@ -12,14 +14,14 @@ use ids::TaskId;
 use memory::{LentTold, Small};
 
 // A table whose peer's queue has been turned, and how far: to the first stealeable entry, or all the way round.
-#[derive(Drop)]
+#[derive(Clone, Copy)]
 struct Scanned {
     small: Small,
     at: usize,
 }
 
 // A table, and whether a task has moved.
-#[derive(Drop)]
+#[derive(Clone, Copy)]
 pub struct Pulled {
     pub small: Small,
     pub moved: bool,

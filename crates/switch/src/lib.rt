@@ -1,4 +1,6 @@
 // Switching: the current task of a CPU leaves, and the head of the CPU's queue runs.
+#![tactic(auto)]
+
 ghost use Rattle.std.specs.Prelude.{◌≡◌};
 ghost use Rattle.model.specs.Model.{capped};
 ghost use Rattle.model.specs.Switch.{is_yield, switch_step};
@@ -11,7 +13,7 @@ use ids::TaskId;
 use memory::{Small, Tasks};
 
 // Why the current task gives up the CPU.
-#[derive(Drop)]
+#[derive(Clone, Copy)]
 pub enum Kind {
     Yield,
     Preempt,
@@ -20,28 +22,28 @@ pub enum Kind {
 }
 
 // Whose stack may be freed, if any.
-#[derive(Drop)]
+#[derive(Clone, Copy)]
 pub enum Release {
     Id(TaskId),
     Nothing,
 }
 
 // What the caller does: go on with the current task, or switch from it to another.
-#[derive(Drop)]
+#[derive(Clone, Copy)]
 pub enum Decision {
     Stay,
     Switch(TaskId, TaskId, Release),
     Refused(Refusal),
 }
 
-#[derive(Drop)]
+#[derive(Clone, Copy)]
 pub struct Switched {
     pub tasks: Tasks,
     pub answer: Decision,
 }
 
 // The same of a call whose arrays are lent.
-#[derive(Drop)]
+#[derive(Clone, Copy)]
 pub struct LentDecision {
     pub small: Small,
     pub answer: Decision,

@@ -167,220 +167,221 @@ fn same_rings(a: Tasks, b: Tasks) -> bool {
     true
 }
 
-fn came_back(t: Tasks, u: Tasks) {
+fn came_back(rt: &impl Print, t: Tasks, u: Tasks) {
     if !same_cpus(t.small, u.small) {
-        say::text(b" changed");
+        say::text(rt, b" changed");
     }
     if !same_rest(t.small, u.small) {
-        say::text(b" changed");
+        say::text(rt, b" changed");
     }
     if !same_slots(t, u) {
-        say::text(b" changed");
+        say::text(rt, b" changed");
     }
     if !same_rings(t, u) {
-        say::text(b" changed");
+        say::text(rt, b" changed");
     }
 }
 
-fn ack(t: Tasks, r: memory::Acked) {
+fn ack(rt: &impl Print, t: Tasks, r: memory::Acked) {
     let answer = r.answer;
-    say::ack(answer);
+    say::ack(rt, answer);
     let u = r.tasks;
-    came_back(t, u);
+    came_back(rt, t, u);
 }
 
-fn named(t: Tasks, r: memory::Gave) {
+fn named(rt: &impl Print, t: Tasks, r: memory::Gave) {
     let answer = r.answer;
-    say::named(answer);
+    say::named(rt, answer);
     let u = r.tasks;
-    came_back(t, u);
+    came_back(rt, t, u);
 }
 
-fn told(t: Tasks, r: memory::Said) {
+fn told(rt: &impl Print, t: Tasks, r: memory::Said) {
     let answer = r.answer;
-    say::told(answer);
+    say::told(rt, answer);
     let u = r.tasks;
-    came_back(t, u);
+    came_back(rt, t, u);
 }
 
-fn decision(t: Tasks, r: switch::Switched) {
+fn decision(rt: &impl Print, t: Tasks, r: switch::Switched) {
     let answer = r.answer;
-    say::decision(answer);
+    say::decision(rt, answer);
     let u = r.tasks;
-    came_back(t, u);
+    came_back(rt, t, u);
 }
 
-fn changes(t: Tasks, id: TaskId) {
-    ack(t, tasks::start(t));
-    named(t, tasks::start_cpu1(t));
-    named(t, tasks::admit(t));
-    named(t, tasks::admit_on(t, 1));
-    told(t, tasks::set_stealeable(t, id, true));
-    told(t, tasks::try_steal_into(t, 1));
-    told(t, tasks::wake(t, id));
-    named(t, tasks::collect(t));
-    decision(t, tasks::switch(t, Kind::Yield));
-    decision(t, tasks::switch_on(t, 1, Kind::Exit));
+fn changes(rt: &impl Print, t: Tasks, id: TaskId) {
+    ack(rt, t, tasks::start(t));
+    named(rt, t, tasks::start_cpu1(t));
+    named(rt, t, tasks::admit(t));
+    named(rt, t, tasks::admit_on(t, 1));
+    told(rt, t, tasks::set_stealeable(t, id, true));
+    told(rt, t, tasks::try_steal_into(t, 1));
+    told(rt, t, tasks::wake(t, id));
+    named(rt, t, tasks::collect(t));
+    decision(rt, t, tasks::switch(t, Kind::Yield));
+    decision(rt, t, tasks::switch_on(t, 1, Kind::Exit));
 }
 
-fn reads(t: Tasks, id: TaskId) {
-    say::named(tasks::current_on(t, 0));
-    say::named(tasks::current(t));
-    say::named(tasks::idle_of(t, 9));
-    say::told(tasks::has_ready_on(t, 9));
-    say::told(tasks::has_ready(t));
-    say::told(tasks::cpu1_started(t));
-    say::stated(tasks::state(t, id));
-    say::homed(tasks::home_of(t, id));
-    say::named(tasks::live_id(t, 1));
-    say::told(tasks::is_stealeable(t, id));
-    say::told(tasks::can_steal_into(t, 1));
-    say::count(tasks::overwrites(t));
-    say::count(tasks::blocked_count(t));
-    say::count(tasks::block_events(t));
-    say::count(tasks::live_count(t));
-    say::count(tasks::peak_slots(t));
+fn reads(rt: &impl Print, t: Tasks, id: TaskId) {
+    say::named(rt, tasks::current_on(t, 0));
+    say::named(rt, tasks::current(t));
+    say::named(rt, tasks::idle_of(t, 9));
+    say::told(rt, tasks::has_ready_on(t, 9));
+    say::told(rt, tasks::has_ready(t));
+    say::told(rt, tasks::cpu1_started(t));
+    say::stated(rt, tasks::state(t, id));
+    say::homed(rt, tasks::home_of(t, id));
+    say::named(rt, tasks::live_id(t, 1));
+    say::told(rt, tasks::is_stealeable(t, id));
+    say::told(rt, tasks::can_steal_into(t, 1));
+    say::count(rt, tasks::overwrites(t));
+    say::count(rt, tasks::blocked_count(t));
+    say::count(rt, tasks::block_events(t));
+    say::count(rt, tasks::live_count(t));
+    say::count(rt, tasks::peak_slots(t));
 }
 
 // The test of a table, then every call on it.
-fn every_call(t: Tasks) {
-    say::truth(tasks::sound(t));
-    changes(t, TaskId::IDLE);
-    reads(t, TaskId::IDLE);
+fn every_call(rt: &impl Print, t: Tasks) {
+    say::truth(rt, tasks::sound(t));
+    changes(rt, t, TaskId::IDLE);
+    reads(rt, t, TaskId::IDLE);
 }
 
 // A line: its clause, and a table with one field set.
-fn line(clause: &[u8], t: Tasks, what: u8, at: u8, v: u8) {
-    say::text(b"ours table damaged, ");
-    say::text(clause);
+fn line(rt: &impl Print, clause: &[u8], t: Tasks, what: u8, at: u8, v: u8) {
+    say::text(rt, b"ours table damaged, ");
+    say::text(rt, clause);
     let u = set(t, what, at, v);
-    every_call(u);
-    say::end();
+    every_call(rt, u);
+    say::end(rt);
 }
 
 // Fields that are not compared: the table is as sound as it was.
-fn unseen(clause: &[u8], t: Tasks, what: u8, at: u8, v: u8) {
-    say::text(b"ours table untouched, ");
-    say::text(clause);
+fn unseen(rt: &impl Print, clause: &[u8], t: Tasks, what: u8, at: u8, v: u8) {
+    say::text(rt, b"ours table untouched, ");
+    say::text(rt, clause);
     let u = set(t, what, at, v);
-    say::truth(tasks::sound(u));
-    say::end();
+    say::truth(rt, tasks::sound(u));
+    say::end(rt);
 }
 
 // Both CPUs run their idles, 3/0 and 4/0 are queued, 2/0 is Blocked, 5/0 has ended and is parked.
-fn busy() -> Tasks {
-    say::text(b"table busy");
+fn busy(rt: &impl Print) -> Tasks {
+    say::text(rt, b"table busy");
     let t = table::runs(
+        rt,
         table::made(8),
         b"s000S000A000A000a100A000x000x020x000x030q000q100n000P000B000",
     );
-    say::end();
+    say::end(rt);
     t
 }
 
 // N, heads, lengths, codes and homes.
-fn sizes(t: Tasks) {
-    line(b"n is 0", t, 110, 0, 0);
-    line(b"n is 65", t, 110, 0, 65);
-    line(b"head at n", t, 104, 0, 8);
-    line(b"length over n", t, 108, 1, 9);
-    line(b"state 4", t, 116, 6, 4);
-    line(b"home 2", t, 72, 6, 2);
+fn sizes(rt: &impl Print, t: Tasks) {
+    line(rt, b"n is 0", t, 110, 0, 0);
+    line(rt, b"n is 65", t, 110, 0, 65);
+    line(rt, b"head at n", t, 104, 0, 8);
+    line(rt, b"length over n", t, 108, 1, 9);
+    line(rt, b"state 4", t, 116, 6, 4);
+    line(rt, b"home 2", t, 72, 6, 2);
 }
 
 // The entries of a queue, and which slots are Ready.
-fn queues(t: Tasks) {
-    line(b"entry not known", t, 81, 4, 1);
-    line(b"entry above n", t, 113, 4, 9);
-    line(b"entry Blocked", t, 116, 3, 3);
-    line(b"entry homed elsewhere", t, 72, 3, 1);
-    line(b"entry missing", t, 108, 1, 0);
-    line(b"Ready, not queued", t, 116, 6, 1);
+fn queues(rt: &impl Print, t: Tasks) {
+    line(rt, b"entry not known", t, 81, 4, 1);
+    line(rt, b"entry above n", t, 113, 4, 9);
+    line(rt, b"entry Blocked", t, 116, 3, 3);
+    line(rt, b"entry homed elsewhere", t, 72, 3, 1);
+    line(rt, b"entry missing", t, 108, 1, 0);
+    line(rt, b"Ready, not queued", t, 116, 6, 1);
     // A second entry for a slot that is queued already.
     let twice = set(t, 113, 5, 3);
-    line(b"slot twice", twice, 108, 0, 2);
+    line(rt, b"slot twice", twice, 108, 0, 2);
 }
 
 // Which slots are Running.
-fn currents(t: Tasks) {
-    line(b"Running, not current", t, 116, 6, 2);
-    line(b"current Ready", t, 116, 0, 1);
-    line(b"current not known", t, 67, 0, 1);
-    line(b"current elsewhere", t, 99, 1, 4);
+fn currents(rt: &impl Print, t: Tasks) {
+    line(rt, b"Running, not current", t, 116, 6, 2);
+    line(rt, b"current Ready", t, 116, 0, 1);
+    line(rt, b"current not known", t, 67, 0, 1);
+    line(rt, b"current elsewhere", t, 99, 1, 4);
 }
 
 // The idle of CPU 0.
-fn idle_zero(t: Tasks) {
-    line(b"idle 0 elsewhere", t, 105, 0, 3);
-    line(b"idle 0 of another epoch", t, 73, 0, 1);
-    line(b"idle 0 homed elsewhere", t, 72, 0, 1);
-    line(b"idle 0 marked", t, 109, 0, 1);
+fn idle_zero(rt: &impl Print, t: Tasks) {
+    line(rt, b"idle 0 elsewhere", t, 105, 0, 3);
+    line(rt, b"idle 0 of another epoch", t, 73, 0, 1);
+    line(rt, b"idle 0 homed elsewhere", t, 72, 0, 1);
+    line(rt, b"idle 0 marked", t, 109, 0, 1);
 }
 
 // The idle of CPU 1.
-fn idle_one(t: Tasks) {
-    line(b"idle 1 Blocked", t, 105, 1, 2);
-    line(b"idle 1 homed elsewhere", t, 72, 1, 0);
-    line(b"idle 1 marked", t, 109, 1, 1);
-    line(b"idle 1 gone", t, 105, 1, 0);
+fn idle_one(rt: &impl Print, t: Tasks) {
+    line(rt, b"idle 1 Blocked", t, 105, 1, 2);
+    line(rt, b"idle 1 homed elsewhere", t, 72, 1, 0);
+    line(rt, b"idle 1 marked", t, 109, 1, 1);
+    line(rt, b"idle 1 gone", t, 105, 1, 0);
 }
 
 // The parked id, and the peak.
-fn parked(t: Tasks) {
-    line(b"parked Ready", t, 115, 3, 0);
-    line(b"parked above n", t, 115, 9, 0);
-    line(b"parked of this epoch", t, 115, 5, 1);
-    line(b"peak too low", t, 107, 0, 4);
-    line(b"peak above n", t, 107, 0, 9);
-    line(b"parked at 0", t, 115, 0, 255);
+fn parked(rt: &impl Print, t: Tasks) {
+    line(rt, b"parked Ready", t, 115, 3, 0);
+    line(rt, b"parked above n", t, 115, 9, 0);
+    line(rt, b"parked of this epoch", t, 115, 5, 1);
+    line(rt, b"peak too low", t, 107, 0, 4);
+    line(rt, b"peak above n", t, 107, 0, 9);
+    line(rt, b"parked at 0", t, 115, 0, 255);
 }
 
 // Flags that are neither 0 nor 1.
-fn flags(t: Tasks) {
-    line(b"mark byte 2", t, 109, 3, 2);
-    line(b"mark byte 255", t, 109, 3, 255);
-    line(b"parked byte 2", t, 112, 0, 2);
+fn flags(rt: &impl Print, t: Tasks) {
+    line(rt, b"mark byte 2", t, 109, 3, 2);
+    line(rt, b"mark byte 255", t, 109, 3, 255);
+    line(rt, b"parked byte 2", t, 112, 0, 2);
 }
 
 // What is not compared.
-fn unused(t: Tasks) {
-    unseen(b"a mark above n", t, 109, 8, 1);
-    unseen(b"a mark byte 2 above n", t, 109, 8, 2);
-    unseen(b"a state above n", t, 116, 63, 9);
-    unseen(b"a place outside the queue", t, 113, 5, 9);
+fn unused(rt: &impl Print, t: Tasks) {
+    unseen(rt, b"a mark above n", t, 109, 8, 1);
+    unseen(rt, b"a mark byte 2 above n", t, 109, 8, 2);
+    unseen(rt, b"a state above n", t, 116, 63, 9);
+    unseen(rt, b"a place outside the queue", t, 113, 5, 9);
 }
 
-pub fn started() {
-    let t = busy();
-    sizes(t);
-    queues(t);
-    currents(t);
-    idle_zero(t);
-    idle_one(t);
-    parked(t);
-    flags(t);
-    unused(t);
+pub fn started(rt: &impl Print) {
+    let t = busy(rt);
+    sizes(rt, t);
+    queues(rt, t);
+    currents(rt, t);
+    idle_zero(rt, t);
+    idle_one(rt, t);
+    parked(rt, t);
+    flags(rt, t);
+    unused(rt, t);
 }
 
-fn fresh_slots(t: Tasks) {
-    line(b"fresh, an epoch", t, 101, 3, 1);
-    line(b"fresh, a home", t, 72, 3, 1);
-    line(b"fresh, a mark", t, 109, 3, 1);
-    line(b"fresh, a queue", t, 108, 0, 1);
-    line(b"fresh, a current", t, 99, 1, 1);
+fn fresh_slots(rt: &impl Print, t: Tasks) {
+    line(rt, b"fresh, an epoch", t, 101, 3, 1);
+    line(rt, b"fresh, a home", t, 72, 3, 1);
+    line(rt, b"fresh, a mark", t, 109, 3, 1);
+    line(rt, b"fresh, a queue", t, 108, 0, 1);
+    line(rt, b"fresh, a current", t, 99, 1, 1);
 }
 
-fn fresh_rest(t: Tasks) {
-    line(b"fresh, an idle", t, 73, 0, 1);
-    line(b"fresh, parked", t, 112, 0, 1);
-    line(b"fresh, overwrites", t, 111, 0, 1);
-    line(b"fresh, block events", t, 98, 0, 1);
-    line(b"fresh, peak", t, 107, 0, 1);
+fn fresh_rest(rt: &impl Print, t: Tasks) {
+    line(rt, b"fresh, an idle", t, 73, 0, 1);
+    line(rt, b"fresh, parked", t, 112, 0, 1);
+    line(rt, b"fresh, overwrites", t, 111, 0, 1);
+    line(rt, b"fresh, block events", t, 98, 0, 1);
+    line(rt, b"fresh, peak", t, 107, 0, 1);
 }
 
-pub fn fresh() {
+pub fn fresh(rt: &impl Print) {
     let t = table::made(4);
-    fresh_slots(t);
-    fresh_rest(t);
-    unseen(b"where a ring starts", t, 104, 0, 3);
+    fresh_slots(rt, t);
+    fresh_rest(rt, t);
+    unseen(rt, b"where a ring starts", t, 104, 0, 3);
 }

@@ -1,5 +1,7 @@
 // The calls of the product on a task table. Each takes any table whatever: one that is not sound is refused with 1 and handed
 // back as given; on one that is, the inner call answers. A table is taken apart, its arrays are lent, and it is put together again.
+#![tactic(auto)]
+
 ghost use Rattle.answers.specs.Answers.{ack_reply, told_reply, count_reply, named_reply, stated_reply, homed_reply};
 ghost use Rattle.answers.specs.Contract.{Meets, Answers};
 ghost use Rattle.lists.specs.Tells.{Tells};

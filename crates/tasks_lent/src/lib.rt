@@ -1,5 +1,7 @@
 // The calls of the product on a task table whose arrays are lent: each takes any table whatever, tests it, and answers 1 or does what
 // the inner call does. The calls by value and the exports stand on these.
+#![tactic(auto)]
+
 ghost use Rattle.answers.specs.Answers.{ack_reply, told_reply, count_reply, named_reply, stated_reply, homed_reply};
 ghost use Rattle.model.specs.Steps.{start_step, start_cpu_step, admit_step, mark_step, wake_step, collect_step};
 ghost use Rattle.model.specs.Switch.{try_steal_step, switch_step};

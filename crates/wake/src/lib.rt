@@ -1,5 +1,7 @@
 // The wake queue: tokens go from the interrupt side to the scheduler's. One place always stays free, so that a full queue
 // and an empty one can be told apart by the two indexes.
+#![tactic(auto)]
+
 ghost use Rattle.std.specs.Prelude.{◌≡◌};
 ghost use Rattle.lists.specs.Tells.{Tells};
 ghost use Rattle.answers.specs.Answers.{ack_reply, told_reply, count_reply};
@@ -13,7 +15,7 @@ use ids::Token;
 
 // The queue without its tokens: its size, where the next token is written (head) and where the next is read (tail).
 #[repr(C)]
-#[derive(Drop)]
+#[derive(Clone, Copy)]
 pub struct Ends {
     pub c: usize,
     pub head: usize,
@@ -23,14 +25,14 @@ pub struct Ends {
 
 // Of the 64 places only the first c count.
 #[repr(C)]
-#[derive(Drop)]
+#[derive(Clone, Copy)]
 pub struct WakeQueue {
     pub ends: Ends,
     pub tokens: [u32; 64],
 }
 
 // A token, or none.
-#[derive(Drop)]
+#[derive(Clone, Copy)]
 pub enum Popped {
     Token(Token),
     Nothing,
@@ -38,38 +40,38 @@ pub enum Popped {
 }
 
 // The queue, beside what a call that made or changed it answers.
-#[derive(Drop)]
+#[derive(Clone, Copy)]
 pub struct Made {
     pub queue: WakeQueue,
     pub answer: Ack,
 }
 
-#[derive(Drop)]
+#[derive(Clone, Copy)]
 pub struct Pushed {
     pub queue: WakeQueue,
     pub answer: Told,
 }
 
-#[derive(Drop)]
+#[derive(Clone, Copy)]
 pub struct Taken {
     pub queue: WakeQueue,
     pub answer: Popped,
 }
 
 // The same of a call whose tokens are lent: they are changed where they lie, and the ends come back.
-#[derive(Drop)]
+#[derive(Clone, Copy)]
 pub struct LentAck {
     pub ends: Ends,
     pub answer: Ack,
 }
 
-#[derive(Drop)]
+#[derive(Clone, Copy)]
 pub struct LentTold {
     pub ends: Ends,
     pub answer: Told,
 }
 
-#[derive(Drop)]
+#[derive(Clone, Copy)]
 pub struct LentPopped {
     pub ends: Ends,
     pub answer: Popped,

@@ -1,4 +1,6 @@
 // The words of a script's line: where a part ends, numbers with a largest value, ids.
+#![tactic(auto)]
+
 ghost use Rattle.std.specs.Prelude.{◌≡◌, ◌≤◌, ◌<◌, ◌+◌, ◌-◌, length, take, drop};
 ghost use Rattle.text.specs.Text.{up_to, number as Text·number};
 ghost use Rattle.text.specs.Text.{same as Text·same};
@@ -6,13 +8,13 @@ ghost use Rattle.words.specs.Words.{largest, both, read_id, num_of, id_of};
 
 use ids::TaskId;
 
-#[derive(Drop)]
+#[derive(Clone, Copy)]
 pub enum Num {
     Value(u64),
     Bad,
 }
 
-#[derive(Drop)]
+#[derive(Clone, Copy)]
 pub enum ReadId {
     Id(TaskId),
     Bad,
