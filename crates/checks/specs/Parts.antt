@@ -1,7 +1,7 @@
 -- What each part of the soundness test tells, said of the arrays that it is lent. A slot's note is the state that the queues
 -- and the currents ask of it: Ready where it is queued, Running where it is a current, and else Empty, which stands for
 -- Blocked too.
-use Rattle.std.specs.Prelude.{◌≡◌, ℕ, ◌+◌, ◌*◌, ◌<◌, ◌≤◌, Bool, true, false, cond, not, List, get_or, set, replicate, ◌==◌, ◌≢◌, slice_index, slice_index_or, slice_set}
+use Rattle.std.specs.Prelude.{◌≡◌, ℕ, ◌+◌, ◌*◌, ◌<◌, ◌≤◌, Bool, true, false, cond, not, List, get_or, replicate, ◌==◌, ◌≢◌, slice_index, slice_index_or, slice_set}
 use Rattle.lists.specs.Flags.{FLAGS}
 use Rattle.lists.specs.Tells.{Tells}
 use Rattle.lists.specs.Tab.{tab}

@@ -3,7 +3,6 @@
 use Rattle.std.specs.Prelude.{Bool, true, false, cond, List, [], ◌∷◌, ℕ, ltb, length}
 use Rattle.std.proofs.Math.Option.{Option, none, some}
 use Prim.Native.String.{String}
-use Rattle.ids.specs.declared.TaskId.{TaskId}
 use Rattle.model.specs.Switch.{Kind, yield, preempt, block, exit}
 use Rattle.model.specs.Calls as task
 use Rattle.irqwait.specs.Calls as wait

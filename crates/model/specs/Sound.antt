@@ -2,7 +2,6 @@
 -- twice and that every Ready slot is queued is one count for each slot and CPU; proofs/Literal.antt shows that the count
 -- says just that, and that an idle as it is said here is its CPU's current or in its queue.
 use Rattle.std.specs.Prelude.{◌≡◌, Bool, true, false, ◌&&◌, ◌⊎◌, List, [], ◌∷◌, ℕ, ◌+◌, ◌≤◌, ◌<◌, length, eqb}
-use Rattle.std.proofs.Math.Option.{some}
 use Rattle.lists.specs.Search.{one_if}
 use Rattle.lists.specs.Entries.{Holds}
 use Rattle.ids.specs.declared.TaskId.{TaskId}
