@@ -1,6 +1,6 @@
 -- What the walk along the CPUs notes: Running for the currents of started CPUs, and nothing else. Each CPU can be tested on
 -- the notes of the queues alone, since currents have different homes.
-use Rattle.std.proofs.Common.{◌≡◌, ℕ, zero, suc, ◌<◌, ◌≤◌, Bool, true, false, List, length, get_or, set, sym, refl, ap, ◌∙◌, ⊎_elim, arith, length-set, get_or-set_other, get_or-set_same}
+use Rattle.std.proofs.Common.{◌≡◌, ℕ, zero, suc, ◌<◌, ◌≤◌, true, false, List, length, get_or, set, sym, refl, ap, ◌∙◌, ⊎_elim, arith, length-set, get_or-set_other, get_or-set_same}
 use native.Mathlib.Decide.{ℕ_discrete}
 use Rattle.lists.proofs.Basics.{true_or_false}
 use Rattle.ids.specs.declared.TaskId.{TaskId}

@@ -7,7 +7,6 @@ use Rattle.lists.proofs.Basics.{get_or-all, map-replicate}
 use Rattle.lists.proofs.TabLaws.{length-tab, get_or-tab}
 use Rattle.lists.specs.Flags.{is_set}
 use Rattle.lists.proofs.FlagLaws.{off_set}
-use Rattle.ids.specs.Id.{idle}
 use Rattle.runqueue.specs.Ring.{id_at}
 use Rattle.runqueue.proofs.RingLaws.{around-none}
 use Rattle.model.specs.Model.{Model, Cpu, CPUS, EMPTY, no_cpu, state_of, epoch_of, home_of, mark_of, cpu_of, fresh}

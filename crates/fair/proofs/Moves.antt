@@ -23,7 +23,7 @@ use Rattle.model.specs.Steps.{when_started, start_step, start_cpu_step, claimed,
 use Rattle.model.specs.Switch.{Kind, yield, preempt, block, exit, is_yield, is_nil, idles, peer_of, loot_at, robbed, can_steal, stealing, try_steal_step, leaves, enters, released, parks, chooses, turn, pulls, switch_on, switch_step}
 use Rattle.model.specs.Calls.{Call, start, start1, admit, switch, mark, steal, wake, collect, read, step}
 use Rattle.model.proofs.Counting.{get_or-set-kept}
-use Rattle.model.proofs.Facts.{live, live-started, by_test}
+use Rattle.model.proofs.Facts.{live-started, by_test}
 use Rattle.model.proofs.Steals.{can-steal}
 use Rattle.model.proofs.StealLaws.{steals-nothing, peer-queue, other-queue}
 use Rattle.model.proofs.SwitchLaws.{handed, slept, exited, turn-yield, turn-preempt, turn-block, turn-exit}

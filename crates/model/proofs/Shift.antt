@@ -11,7 +11,7 @@ use lib.Dec.{eqb}
 use borrow.Author.Tests.{ne_eqb}
 use Rattle.lists.specs.Search.{one_if}
 use Rattle.ids.specs.declared.TaskId.{TaskId}
-use Rattle.ids.specs.Id.{EPOCHS, idle}
+use Rattle.ids.specs.Id.{EPOCHS}
 use Rattle.model.specs.Model.{Model, CPUS, STATES, EMPTY, READY, RUNNING, no_cpu, state_of, epoch_of, home_of, mark_of, cpu_of, queue_of, current_of, idle_of, slots_to, set_queue, with_queue}
 use Rattle.model.specs.Sound.{occ, ready_on, Shape, AllKnown}
 use Rattle.model.proofs.Counting.{get_or-set-kept, ready_here, ready_else, absent, known_as, known_kept}

@@ -12,7 +12,7 @@ use lib.Dec.{eqb}
 use borrow.Author.Tests.{eq-eqb, ne_eqb}
 use Rattle.lists.specs.Search.{one_if}
 use Rattle.ids.specs.declared.TaskId.{TaskId}
-use Rattle.ids.specs.Id.{EPOCHS, idle}
+use Rattle.ids.specs.Id.{EPOCHS}
 use Rattle.model.specs.Model.{Model, CPUS, EMPTY, READY, RUNNING, BLOCKED, no_cpu, state_of, epoch_of, home_of, mark_of, queue_of, current_of, idle_of, tenant, slots_to, with_state, with_epoch, with_home, with_mark, with_queue, pushed}
 use Rattle.model.specs.Sound.{occ, ready_on, Shape, AllKnown}
 use Rattle.model.proofs.Counting.{one_if-most, absent, ready-there, occ-snoc, known_as, known_kept, known-snoc}

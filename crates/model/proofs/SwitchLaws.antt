@@ -9,7 +9,6 @@ use native.Mathlib.Omega.{arith}
 use lib.ListN.{set}
 use lib.Seq.{get_or-set_same, set-get_or, set-set}
 use Rattle.ids.specs.declared.TaskId.{TaskId}
-use Rattle.ids.specs.Id.{idle}
 use Rattle.ids.proofs.IdLaws.{same_self}
 use Rattle.answers.specs.Reply.{stays, switched}
 use Rattle.model.specs.Model.{Model, Cpu, CPUS, EMPTY, READY, RUNNING, BLOCKED, no_cpu, epoch_of, cpu_of, queue_of, current_of, idle_of, started_on, set_queue, with_state, with_epoch, with_cpu, pushed, rest_to, capped, bump}

@@ -12,7 +12,7 @@ use borrow.Author.Tests.{eq-eqb}
 use Rattle.lists.specs.Search.{one_if}
 use Rattle.lists.proofs.Basics.{not_both}
 use Rattle.ids.specs.declared.TaskId.{TaskId}
-use Rattle.ids.specs.Id.{same_id, idle}
+use Rattle.ids.specs.Id.{same_id}
 use Rattle.ids.proofs.IdLaws.{same_self}
 use Rattle.model.specs.Model.{Model, CPUS, EMPTY, READY, RUNNING, BLOCKED, no_cpu, state_of, epoch_of, home_of, cpu_of, queue_of, current_of, idle_of, started_on, set_queue, with_state, with_epoch, with_queue, pushed, bump, capped}
 use Rattle.model.specs.Sound.{occ, Known, AllKnown, Active, OnOk, Shape, Live}

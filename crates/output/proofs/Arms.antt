@@ -26,7 +26,7 @@ use Rattle.wake.specs.declared.WakeQueue.{WakeQueue}
 use Rattle.wake.specs.Queue as wakes-kind
 use Rattle.wake.specs.Steps as tokens
 use Rattle.wake.specs.Calls as token
-use Rattle.runs.specs.Tables.{on_tasks, on_waits, on_deadlines, on_wakes, with_tasks, with_waits, with_deadlines, with_wakes, fresh, step}
+use Rattle.runs.specs.Tables.{on_tasks, on_waits, on_deadlines, on_wakes, with_tasks, with_waits, with_deadlines, with_wakes, step}
 use Rattle.runs.specs.Outcomes.{Memory, view}
 use Rattle.text.specs.Print.{Wrote}
 use Rattle.lines.specs.declared.DeadlineCall.{DeadlineCall}

@@ -1,6 +1,6 @@
 -- The returns of `try_steal_into_in`.
 use mathlib.Core.Path.{◌≡◌, refl, sym, ◌∙◌, ap}
-use mathlib.Core.Bool.{Bool, false, ◌&&◌, and_false}
+use mathlib.Core.Bool.{Bool, false, ◌&&◌, and-false}
 use Prim.Native.Nat.{ℕ, ◌≤◌, ◌<◌}
 use native.Mathlib.Omega.{arith}
 use borrow.Author.Tests.{le-ltb}
@@ -24,7 +24,7 @@ module _ (t : Tasks) (c : ℕ) where
 
   pub can_busy : c < CPUS → (len_of t c ≡ 0 → ⊥) → can_steal (view t) c ≡ false
   unfolding can_steal
-  can_busy hc h = rw (not_nil (queue_of (view t) c) (λ e. h (sym (view-len t c hc) ∙ e))) (ap (λ b. b && ltb (loot_at (view t) (queue_of (view t) (peer_of (view t) c))) (length (queue_of (view t) (peer_of (view t) c)))) (and_false (ltb c (length (view t).cpus))))
+  can_busy hc h = rw (not_nil (queue_of (view t) c) (λ e. h (sym (view-len t c hc) ∙ e))) (ap (λ b. b && ltb (loot_at (view t) (queue_of (view t) (peer_of (view t) c))) (length (queue_of (view t) (peer_of (view t) c)))) (and-false (ltb c (length (view t).cpus))))
 
 module _ (t : Tasks) (c : ℕ) (w : Sound t) (on : get_or t.states 0 0 ≡ 0 → ⊥) where
   none : can_steal (view t) c ≡ false → Does table t t (told false) (try_steal_step (view t) c)

@@ -1,8 +1,6 @@
 -- A switch in the code's own terms: which kinds an arm has, and `n` and the leaver as they were read at the start.
-use Rattle.std.proofs.Common.{◌≡◌, ℕ, ◌+◌, ◌-◌, ◌*◌, ◌%◌, ◌^◌, ◌<◌, Bool, true, false, [], ◌∷◌, get_or, sym, refl, ap, ◌∙◌, subst, ⊎_elim, arith}
+use Rattle.std.proofs.Common.{◌≡◌, ℕ, ◌+◌, ◌-◌, ◌*◌, ◌%◌, ◌^◌, ◌<◌, Bool, true, false, get_or, sym, refl, ap, ◌∙◌, subst, ◌⊎◌, ⊎_elim, arith}
 use mathlib.Core.Option.{some, none}
-use types.Run.{OneOf}
-use denote.Enum.Declared.{tag_of}
 use Rattle.ids.specs.declared.TaskId.{TaskId}
 use Rattle.ids.specs.Id.{same_id, idle}
 use Rattle.answers.specs.Reply.{stays, switched}
@@ -20,22 +18,18 @@ use Rattle.steps.proofs.Decides.{ready-n, ready-current, going, decide_stay, dec
 use Rattle.switch.specs.Decisions.{kind_of}
 use Rattle.switch.specs.declared.Kind as kind
 use Rattle.switch.specs.declared.Kind.TheVariants as kind-of
-use Rattle.switch.specs.contracts.Kind.{the_type as kind-type}
 
 -- WHICH KINDS AN ARM HAS
 
-pub to-tail : (k : kind.Kind) → OneOf (0 ∷ 1 ∷ []) (tag_of kind-type k) → (m : Model) (c : ℕ) → leaves m c (kind_of k) ≡ pushed (with_state m (current_of m c).slot READY) c (current_of m c)
+pub to-tail : (k : kind.Kind) → (k ≡ kind-of.Yield) ⊎ (k ≡ kind-of.Preempt) → (m : Model) (c : ℕ) → leaves m c (kind_of k) ≡ pushed (with_state m (current_of m c).slot READY) c (current_of m c)
 unfolding leaves
-to-tail kind-of.Yield h m c = refl
-to-tail kind-of.Preempt h m c = refl
-to-tail kind-of.Block h m c = absurd (⊎_elim (λ (e : ◌≡◌ {A = ℕ} 2 0). omega arith) (λ (e : ◌≡◌ {A = ℕ} 2 1). omega arith) h)
-to-tail kind-of.Exit h m c = absurd (⊎_elim (λ (e : ◌≡◌ {A = ℕ} 3 0). omega arith) (λ (e : ◌≡◌ {A = ℕ} 3 1). omega arith) h)
+to-tail k h m c = ⊎_elim (λ e. rw e refl) (λ e. rw e refl) h
 
-pub no_exit : (k : kind.Kind) → OneOf (0 ∷ 1 ∷ 2 ∷ []) (tag_of kind-type k) → kind_of k ≡ exit → ⊥
+pub no_exit : (k : kind.Kind) → (k ≡ kind-of.Exit → ⊥) → kind_of k ≡ exit → ⊥
 no_exit kind-of.Yield h e = let z : ◌≡◌ {A = ℕ} 0 1 = cc in omega arith
 no_exit kind-of.Preempt h e = let z : ◌≡◌ {A = ℕ} 0 1 = cc in omega arith
 no_exit kind-of.Block h e = let z : ◌≡◌ {A = ℕ} 0 1 = cc in omega arith
-no_exit kind-of.Exit h e = ⊎_elim (λ (d : ◌≡◌ {A = ℕ} 3 0). omega arith) (⊎_elim (λ (d : ◌≡◌ {A = ℕ} 3 1). omega arith) (λ (d : ◌≡◌ {A = ℕ} 3 2). omega arith)) h
+no_exit kind-of.Exit h e = h refl
 
 -- a call on a CPU that is up
 pub record Begun (t : Tasks) (c : ℕ) : Type 0 where

@@ -1,0 +1,14 @@
+-- `take ID`.
+use Rattle.text.specs.Text.{same}
+use Rattle.words.proofs.Laws.{no_id, is_id}
+use Rattle.lines.specs.Lines.{pick, two_words}
+use Rattle.lines.proofs.Laws.{no_field, field_is}
+use Rattle.lines.proofs.read_take.Goals as goal
+
+pub returns-in_default : goal.returns-in_default
+unfolding same pick two_words
+returns-in_default c = no_field _ _ (no_id _ c.id.ensures c.in_default.is)
+
+pub returns : goal.returns
+unfolding same pick two_words
+returns c = field_is _ _ _ (is_id _ _ c.id.ensures c.in-Id.is)

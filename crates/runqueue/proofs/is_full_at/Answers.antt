@@ -1,0 +1,6 @@
+-- 1 from a span that is not sound; else what the model reads, whatever the entries are.
+use Rattle.runqueue.proofs.Laws.{full_is}
+use Rattle.runqueue.proofs.is_full_at.Goals as goal
+
+pub returns : goal.returns
+returns c = λ slots epochs. full_is _ (c.sound_at.ensures.true_is c.if-not-sound_at.false)

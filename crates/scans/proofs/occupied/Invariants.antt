@@ -1,0 +1,13 @@
+use Prim.Native.Nat.{◌≤◌, ◌-◌}
+use mathlib.Core.Bool.{not}
+use lib.Dec.{eqb}
+use Rattle.model.specs.Model.{EMPTY}
+use Rattle.scans.proofs.Laws.{Counted}
+use Rattle.std.proofs.Common.{◌-◌, ◌≤◌}
+use Rattle.scans.proofs.occupied.Given as goal
+
+abbrev pub invariant-loop-s : goal.invariant-loop-s
+invariant-loop-s l = (l.s ≤ l.n) × Counted (λ i. not (eqb i EMPTY)) l.states l.n l.s l.k
+
+abbrev pub decreases-loop-s : goal.decreases-loop-s
+decreases-loop-s l = l.n - l.s
