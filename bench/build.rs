@@ -1,11 +1,11 @@
-//! Links the archive that `rt staticlib repeats` writes, from the folder that BREDUMALT_LIB names, or from the checkout's own.
+//! Links the archive that `rt lib` writes in crates/repeats, from the folder that REPEATS_LIB names, or from the checkout's own.
 use std::env;
 use std::path::PathBuf;
 
 const ARCHIVE: &str = "librepeats.a";
 
 fn main() {
-    println!("cargo::rerun-if-env-changed=BREDUMALT_LIB");
+    println!("cargo::rerun-if-env-changed=REPEATS_LIB");
     let folders = folders();
     for folder in &folders {
         println!("cargo::rerun-if-changed={}", folder.join(ARCHIVE).display());
@@ -17,16 +17,16 @@ fn main() {
         }
         None => {
             let tried: Vec<String> = folders.iter().map(|folder| folder.display().to_string()).collect();
-            println!("cargo::error={ARCHIVE} is not in {}: run `rt staticlib repeats`", tried.join(" or "));
+            println!("cargo::error={ARCHIVE} is not in {}: run `rt lib` in crates/repeats", tried.join(" or "));
         }
     }
 }
 
-/// Where the archive may lie, as for the bindings: a relative BREDUMALT_LIB is meant from the folder in which cargo was called.
+/// Where the archive may lie, as for the bindings: a relative REPEATS_LIB is meant from the folder in which cargo was called.
 fn folders() -> Vec<PathBuf> {
     let here = PathBuf::from(env::var_os("CARGO_MANIFEST_DIR").expect("cargo sets CARGO_MANIFEST_DIR"));
-    let Some(named) = env::var_os("BREDUMALT_LIB").filter(|named| !named.is_empty()).map(PathBuf::from) else {
-        return vec![here.join("../target/staticlib")];
+    let Some(named) = env::var_os("REPEATS_LIB").filter(|named| !named.is_empty()).map(PathBuf::from) else {
+        return vec![here.join("../crates/repeats/out")];
     };
     if named.is_absolute() {
         return vec![named];

@@ -1,4 +1,4 @@
-//! Links the archive that `rt staticlib bredumalt` writes, from the folder that BREDUMALT_LIB names, or from the checkout's own.
+//! Links the archive that `rt lib` writes in crates/bredumalt, from the folder that BREDUMALT_LIB names, or from the checkout's own.
 use std::env;
 use std::path::PathBuf;
 
@@ -17,7 +17,7 @@ fn main() {
         }
         None => {
             let tried: Vec<String> = folders.iter().map(|folder| folder.display().to_string()).collect();
-            println!("cargo::error={ARCHIVE} is not in {}: run `rt staticlib bredumalt`", tried.join(" or "));
+            println!("cargo::error={ARCHIVE} is not in {}: run `rt lib` in crates/bredumalt", tried.join(" or "));
         }
     }
 }
@@ -27,7 +27,7 @@ fn main() {
 fn folders() -> Vec<PathBuf> {
     let here = PathBuf::from(env::var_os("CARGO_MANIFEST_DIR").expect("cargo sets CARGO_MANIFEST_DIR"));
     let Some(named) = env::var_os("BREDUMALT_LIB").filter(|named| !named.is_empty()).map(PathBuf::from) else {
-        return vec![here.join("../target/staticlib")];
+        return vec![here.join("../crates/bredumalt/out")];
     };
     if named.is_absolute() {
         return vec![named];

@@ -21,11 +21,11 @@ same() {
 }
 
 if [ -z "${BREDUMALT_LIB:-}" ]; then
-    (cd .. && rt staticlib bredumalt) >"$work/rt" 2>&1 || {
+    (cd ../crates/bredumalt && rt lib) >"$work/rt" 2>&1 || {
         cat "$work/rt"
         exit 1
     }
-    BREDUMALT_LIB=$(cd ../target/staticlib && pwd)
+    BREDUMALT_LIB=$(cd ../crates/bredumalt/out && pwd)
 fi
 export BREDUMALT_LIB
 export CARGO_TARGET_DIR=${CARGO_TARGET_DIR:-../target/bindings}

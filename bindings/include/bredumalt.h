@@ -1,6 +1,6 @@
 /* Bredumalt over the C boundary: the scheduling core of a managed Ethernet switch, proved in Rattle.
  *
- * Link libbredumalt.a of target/staticlib (rt staticlib bredumalt writes it). It is for x86-64 with the System V calling convention,
+ * Link libbredumalt.a of crates/bredumalt/out (rt lib in crates/bredumalt writes it). It is for x86-64 with the System V calling convention,
  * and needs of the firmware:
  *   - of its C library memcpy, and nothing else; that is all that nm -u shows;
  *   - SSE registers, switched on, and saved by whoever interrupts;

@@ -12,7 +12,7 @@ use oracle::tasks::{Decision, State};
 const TABLE: &str = include_str!("../../../../crates/table_cases/src/table.rt");
 const DAMAGE: &str = include_str!("../../../../crates/table_cases/src/damage.rt");
 
-/// The arguments of each call of a function in a source file, in order.
+/// The arguments of each call of a function in a source file, in order, without `rt`, the handle of what is written.
 pub fn calls(source: &str, name: &str) -> Vec<(usize, Vec<String>)> {
     let mut found = Vec::new();
     for (at, _) in source.match_indices(&format!(" {name}(")) {
@@ -31,7 +31,7 @@ pub fn calls(source: &str, name: &str) -> Vec<(usize, Vec<String>)> {
                 _ => {}
             }
         }
-        args.retain(|a| !a.is_empty());
+        args.retain(|a| !a.is_empty() && a != "rt");
         found.push((at, args));
     }
     found
