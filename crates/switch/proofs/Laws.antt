@@ -9,7 +9,7 @@ use Rattle.runqueue.specs.Ring.{placed}
 use Rattle.model.specs.Model.{Model, CPUS, MOST, EMPTY, READY, RUNNING, BLOCKED, current_of, started_on, with_state, pushed, capped}
 use Rattle.model.specs.Switch.{Kind, block, exit, leaves, switch_step}
 use Rattle.memory.specs.declared.Tasks.{Tasks}
-use Rattle.memory.specs.View.{SPAN, head_of, len_of, view, Sound, table}
+use Rattle.memory.specs.View.{SPAN, head_of, len_of, view, Rep, Sound, table}
 use Rattle.memory.proofs.Puts.{put_state, put_epoch, put_tail, put_head, put_current, put_rest}
 use Rattle.memory.proofs.RingStores.{ring_in}
 use Rattle.steps.specs.Switching.{Ready, Left}
@@ -30,6 +30,10 @@ no_exit kind-of.Yield h e = let z : ◌≡◌ {A = ℕ} 0 1 = cc in omega arith
 no_exit kind-of.Preempt h e = let z : ◌≡◌ {A = ℕ} 0 1 = cc in omega arith
 no_exit kind-of.Block h e = let z : ◌≡◌ {A = ℕ} 0 1 = cc in omega arith
 no_exit kind-of.Exit h e = h refl
+
+-- what is known of a table is known of one that is the same
+pub carried : {u v : Tasks} {m : Model} → v ≡ u → Rep u → view u ≡ m → Rep v × (view v ≡ m)
+carried e r s = (subst Rep (sym e) r, ap view e ∙ s)
 
 -- a call on a CPU that is up
 pub record Begun (t : Tasks) (c : ℕ) : Type 0 where

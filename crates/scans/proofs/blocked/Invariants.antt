@@ -1,4 +1,3 @@
-use Prim.Native.Nat.{◌≤◌, ◌-◌}
 use lib.Dec.{eqb}
 use Rattle.model.specs.Model.{BLOCKED}
 use Rattle.scans.proofs.Laws.{Counted}

@@ -1,5 +1,4 @@
 -- The loop passes slots that are not Empty.
-use Prim.Native.Nat.{◌≤◌, ◌-◌}
 use Rattle.scans.proofs.Laws.{Full}
 use Rattle.std.proofs.Common.{◌-◌, ◌≤◌}
 use Rattle.scans.proofs.empty_from.Given as goal

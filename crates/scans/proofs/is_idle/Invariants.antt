@@ -1,4 +1,3 @@
-use Prim.Native.Nat.{◌≤◌, ◌-◌}
 use Rattle.scans.proofs.Laws.{NoneOf}
 use Rattle.std.proofs.Common.{◌-◌, ◌≤◌}
 use Rattle.scans.proofs.is_idle.Given as goal

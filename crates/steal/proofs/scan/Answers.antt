@@ -9,9 +9,7 @@ use Rattle.steal.proofs.scan.Goals as goal
 
 pub loop-j-init : goal.loop-j-init
 loop-j-init c =
-    turning_start
-    (whole c.args.states.now c.args.epochs.now c.args.homes.now c.args.marks.now c.args.ring_slots.now c.args.ring_epochs.now c.args.s)
-    c.args.peer c.requires.sound.rep c.requires.peer_bound
+    turning_start _ c.args.peer c.requires.sound.rep c.requires.peer_bound
 
 pub loop-j-preserved : goal.loop-j-preserved
 loop-j-preserved c =
@@ -23,16 +21,12 @@ loop-j-preserved c =
     let u =
     (whole c.args.states.now c.args.epochs.now c.args.homes.now c.args.marks.now c.loop-j.ring_slots c.loop-j.ring_epochs c.args.s)
     in
-    let room = has_room
-    (whole c.args.states.now c.args.epochs.now c.args.homes.now c.args.marks.now c.args.ring_slots.now c.args.ring_epochs.now c.args.s)
-    w c.requires.s_value c.args.peer hp in
+    let room = has_room _ w c.requires.s_value c.args.peer hp in
     let m = w.rep.most in
     let e = c.spot-from.ensures in
     let g = c.spot-to.ensures in
-    turning_pass
-    (whole c.args.states.now c.args.epochs.now c.args.homes.now c.args.marks.now c.args.ring_slots.now c.args.ring_epochs.now c.args.s)
-    c.args.peer w.rep hp u h j v (omega arith) _ _ _ _ room e.0 g.0 c.place-head.ensures.0 refl
-    (turning_test (whole c.args.states.now c.args.epochs.now c.args.homes.now c.args.marks.now c.args.ring_slots.now c.args.ring_epochs.now c.args.s) c.args.peer w.rep hp u h j v (omega arith) _ _ e.0 c.stealeable.ensures ∙ c.if-stealeable.false)
+    turning_pass _ c.args.peer w.rep hp u h j v (omega arith) _ _ _ _ room e.0 g.0 c.place-head.ensures.0 refl
+    (turning_test _ c.args.peer w.rep hp u h j v (omega arith) _ _ e.0 c.stealeable.ensures ∙ c.if-stealeable.false)
 
 pub returns : goal.returns
 returns c =
@@ -45,4 +39,4 @@ returns c =
     (whole c.args.states.now c.args.epochs.now c.args.homes.now c.args.marks.now c.loop-j.ring_slots c.loop-j.ring_epochs c.args.s)
     in
     elim c.if-len-j.branch
-    [ then-len-j q ↦ turning_end (whole c.args.states.now c.args.epochs.now c.args.homes.now c.args.marks.now c.args.ring_slots.now c.args.ring_epochs.now c.args.s) c.args.peer w.rep hp u h j v _ q.found-is (found_none (whole c.args.states.now c.args.epochs.now c.args.homes.now c.args.marks.now c.args.ring_slots.now c.args.ring_epochs.now c.args.s) c.args.peer w.rep hp u h j v q.if-len-j.true) | else-len-j+then-stealeable q ↦ turning_end (whole c.args.states.now c.args.epochs.now c.args.homes.now c.args.marks.now c.args.ring_slots.now c.args.ring_epochs.now c.args.s) c.args.peer w.rep hp u h j v _ q.found-is (found_at (whole c.args.states.now c.args.epochs.now c.args.homes.now c.args.marks.now c.args.ring_slots.now c.args.ring_epochs.now c.args.s) c.args.peer w.rep hp u h j v q.if-len-j.false (turning_test (whole c.args.states.now c.args.epochs.now c.args.homes.now c.args.marks.now c.args.ring_slots.now c.args.ring_epochs.now c.args.s) c.args.peer w.rep hp u h j v q.if-len-j.false _ _ q.spot-from.ensures.0 q.stealeable.ensures ∙ q.if-stealeable.true)) ]
+    [ then-len-j q ↦ turning_end _ c.args.peer w.rep hp u h j v _ q.found-is (found_none _ c.args.peer w.rep hp u h j v q.if-len-j.true) | else-len-j+then-stealeable q ↦ turning_end _ c.args.peer w.rep hp u h j v _ q.found-is (found_at _ c.args.peer w.rep hp u h j v q.if-len-j.false (turning_test _ c.args.peer w.rep hp u h j v q.if-len-j.false _ _ q.spot-from.ensures.0 q.stealeable.ensures ∙ q.if-stealeable.true)) ]

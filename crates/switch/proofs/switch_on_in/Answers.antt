@@ -1,7 +1,5 @@
 -- A switch, place by place: the CPU is up, the steal is tried, the current task leaves, the head runs.
-use Rattle.std.proofs.Common.{◌≡◌, ℕ, ◌+◌, get_or, sym, refl, ap, ◌∙◌, subst, arith}
-use Rattle.ids.specs.declared.TaskId.{TaskId}
-use Rattle.ids.specs.Id.{idle}
+use Rattle.std.proofs.Common.{◌≡◌, ◌+◌, sym, refl, ap, ◌∙◌, subst, arith}
 use Rattle.model.specs.Switch.{switch_step, pulls}
 use Rattle.memory.specs.declared.Tasks.{Tasks}
 use Rattle.memory.specs.View.{view, len_of, Rep}
@@ -11,11 +9,11 @@ use Rattle.steps.specs.Switching.{Ready, Left}
 use Rattle.steps.proofs.Common.{not_started, is-on}
 use Rattle.steps.proofs.Switches.{switch_above, switch-off, cpu_zero, cpu-on, pulled_busy, pulled_tried, idle-stays, ready-idle, ready-task}
 use Rattle.switch.specs.Decisions.{kind_of}
-use Rattle.switch.proofs.Laws.{Begun, to-tail, no_exit, from_low, tail-low, goes-tail, goes-blocked, goes-out, head-low, some-queued, entry-low, stays_on, goes_on, parks_over, parks-first}
+use Rattle.switch.proofs.Laws.{Begun, carried, to-tail, no_exit, from_low, tail-low, goes-tail, goes-blocked, goes-out, head-low, some-queued, entry-low, stays_on, goes_on, parks_over, parks-first}
 use Rattle.switch.proofs.switch_on_in.Goals as goal
 use Rattle.switch.proofs.switch_on_in.Goals.{Joined-c-ne0, then-c-ne0+else-same, else-c-ne0, Joined-s-c-eq0, then-s-c-eq0, else-s-c-eq0, Joined-same-2, then-same-2+else-not-is_yield, else-same-2, Joined-kind, in-Yield, in-Block, in-Exit}
 
--- THE CALL: what is asked, and that the CPU is up
+-- THE CALL: what is asked, and that the CPU is up. Each place has its own type, so the table that came in is said once for each.
 
 abbrev table : Joined-c-ne0 → Tasks
 table c =
@@ -39,9 +37,6 @@ begun c =
 
 -- THE STEAL: the table after it, and as a task leaves
 
-abbrev from : Tasks → ℕ → TaskId
-from t cpu = get_or t.small.currents cpu idle
-
 abbrev table6 : Joined-s-c-eq0 → Tasks
 table6 c =
     whole c.args.states.now c.args.epochs.now c.args.homes.now c.args.marks.now c.args.ring_slots.now c.args.ring_epochs.now
@@ -57,8 +52,8 @@ pulled c y =
     let t = table6 c in
     let k = kind_of c.args.kind in
     elim c.if-s-c-eq0.branch [
-      | then-s-c-eq0 a ↦ let e = same_whole a.states-is a.epochs-is a.homes-is a.marks-is a.ring_slots-is a.ring_epochs-is a.s-is in (subst Rep (sym e) a.pull-r.ensures.rep, ap view e ∙ pulled_tried t c.args.cpu k y.sound y.on y.low y.up (sym c.same-2.ensures ∙ c.if-same-2.true) a.if-s-c-eq0.true _ _ a.pull-r.ensures)
-      | else-s-c-eq0 a ↦ let e = same_whole a.states-is a.epochs-is a.homes-is a.marks-is a.ring_slots-is a.ring_epochs-is a.s-is in (subst Rep (sym e) y.sound.rep, ap view e ∙ pulled_busy t c.args.cpu k y.sound y.on y.low y.up a.if-s-c-eq0.false)
+      | then-s-c-eq0 a ↦ carried (same_whole a.states-is a.epochs-is a.homes-is a.marks-is a.ring_slots-is a.ring_epochs-is a.s-is) a.pull-r.ensures.rep (pulled_tried t c.args.cpu k y.sound y.on y.low y.up (sym c.same-2.ensures ∙ c.if-same-2.true) a.if-s-c-eq0.true _ _ a.pull-r.ensures)
+      | else-s-c-eq0 a ↦ carried (same_whole a.states-is a.epochs-is a.homes-is a.marks-is a.ring_slots-is a.ring_epochs-is a.s-is) y.sound.rep (pulled_busy t c.args.cpu k y.sound y.on y.low y.up a.if-s-c-eq0.false)
     ]
 
 abbrev table5 : Joined-same-2 → Tasks
@@ -82,8 +77,8 @@ ready c y =
           let six = whole a.if-s-c-eq0.states a.if-s-c-eq0.epochs a.if-s-c-eq0.homes a.if-s-c-eq0.marks a.if-s-c-eq0.ring_slots a.if-s-c-eq0.ring_epochs a.if-s-c-eq0.s in
           let q : Rep six × (view six ≡ pulls (view t) cpu) =
           elim a.if-s-c-eq0.branch [
-            | then-s-c-eq0 w ↦ let d = same_whole w.states-is w.epochs-is w.homes-is w.marks-is w.ring_slots-is w.ring_epochs-is w.s-is in (subst Rep (sym d) w.pull-r.ensures.rep, ap view d ∙ pulled_tried t cpu k y.sound y.on y.low y.up (sym c.same-2.ensures ∙ a.if-same-2.true) w.if-s-c-eq0.true _ _ w.pull-r.ensures)
-            | else-s-c-eq0 w ↦ let d = same_whole w.states-is w.epochs-is w.homes-is w.marks-is w.ring_slots-is w.ring_epochs-is w.s-is in (subst Rep (sym d) y.sound.rep, ap view d ∙ pulled_busy t cpu k y.sound y.on y.low y.up w.if-s-c-eq0.false)
+            | then-s-c-eq0 w ↦ carried (same_whole w.states-is w.epochs-is w.homes-is w.marks-is w.ring_slots-is w.ring_epochs-is w.s-is) w.pull-r.ensures.rep (pulled_tried t cpu k y.sound y.on y.low y.up (sym c.same-2.ensures ∙ a.if-same-2.true) w.if-s-c-eq0.true _ _ w.pull-r.ensures)
+            | else-s-c-eq0 w ↦ carried (same_whole w.states-is w.epochs-is w.homes-is w.marks-is w.ring_slots-is w.ring_epochs-is w.s-is) y.sound.rep (pulled_busy t cpu k y.sound y.on y.low y.up w.if-s-c-eq0.false)
           ] in
           subst (λ (u : Tasks). Ready t cpu k u) (sym e) (ready-idle t cpu k y.sound y.on y.low y.up _ q.0 q.1 (sym a.is_yield.ensures ∙ a.if-not-is_yield.false))
       | else-same-2 a ↦ subst (λ (u : Tasks). Ready t cpu k u) (sym (same_whole a.states-is a.epochs-is a.homes-is a.marks-is a.ring_slots-is a.ring_epochs-is a.s-is)) (ready-task t cpu k y.sound y.on y.low y.up (sym c.same-2.ensures ∙ a.if-same-2.false))
@@ -117,35 +112,27 @@ left c y r =
 pub returns-then-states-eq-EMPTY : goal.returns-then-states-eq-EMPTY
 unfolding switch_step
 returns-then-states-eq-EMPTY c =
-    not_started
-    (whole c.args.states.now c.args.epochs.now c.args.homes.now c.args.marks.now c.args.ring_slots.now c.args.ring_epochs.now c.args.s)
-    c.requires _ c.if-states-eq-EMPTY.true
+    not_started _ c.requires _ c.if-states-eq-EMPTY.true
 
 pub returns-then-c-ge-CPUS : goal.returns-then-c-ge-CPUS
 returns-then-c-ge-CPUS c =
-    switch_above
-    (whole c.args.states.now c.args.epochs.now c.args.homes.now c.args.marks.now c.args.ring_slots.now c.args.ring_epochs.now c.args.s)
-    c.args.cpu (kind_of c.args.kind) c.requires c.if-states-eq-EMPTY.false c.if-c-ge-CPUS.true
+    switch_above _ c.args.cpu (kind_of c.args.kind) c.requires c.if-states-eq-EMPTY.false c.if-c-ge-CPUS.true
 
 pub returns-then-same : goal.returns-then-same
 returns-then-same c =
-    switch-off
-    (whole c.args.states.now c.args.epochs.now c.args.homes.now c.args.marks.now c.args.ring_slots.now c.args.ring_epochs.now c.args.s)
-    c.args.cpu (kind_of c.args.kind) c.requires c.if-states-eq-EMPTY.false c.if-c-ge-CPUS.false c.if-c-ne0.true
+    switch-off _ c.args.cpu (kind_of c.args.kind) c.requires c.if-states-eq-EMPTY.false c.if-c-ge-CPUS.false c.if-c-ne0.true
     (sym c.same.ensures ∙ c.if-same.true)
 
 pub pull-r-requires-clause-s_value : goal.pull-r-requires-clause-s_value
 pull-r-requires-clause-s_value c =
-    is-on
-    (whole c.args.states.now c.args.epochs.now c.args.homes.now c.args.marks.now c.args.ring_slots.now c.args.ring_epochs.now c.args.s)
-    c.requires c.if-states-eq-EMPTY.false
+    is-on _ c.requires c.if-states-eq-EMPTY.false
 
 pub returns-then-not-is_yield : goal.returns-then-not-is_yield
 returns-then-not-is_yield c =
     let at = goal.at-returns-then-not-is_yield c in
     let y = begun at.Joined-c-ne0 in
     let q = pulled at.Joined-s-c-eq0 y in
-    idle-stays (whole c.args.states.now c.args.epochs.now c.args.homes.now c.args.marks.now c.args.ring_slots.now c.args.ring_epochs.now c.args.s) c.args.cpu (kind_of c.args.kind) y.sound y.on y.low y.up _ q.0 q.1 (sym c.same-2.ensures ∙ c.if-same-2.true) (sym c.is_yield.ensures ∙ c.if-not-is_yield.true)
+    idle-stays _ c.args.cpu (kind_of c.args.kind) y.sound y.on y.low y.up _ q.0 q.1 (sym c.same-2.ensures ∙ c.if-same-2.true) (sym c.is_yield.ensures ∙ c.if-not-is_yield.true)
 
 pub spot-to-requires-clause-x_bound : goal.spot-to-requires-clause-x_bound
 spot-to-requires-clause-x_bound c =

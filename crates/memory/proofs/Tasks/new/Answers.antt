@@ -1,4 +1,4 @@
--- A size that is not listed is refused, and any other makes an table that is not started.
+-- A size that is not listed is refused, and any other makes a table that is not started.
 use mathlib.Core.Path.{sym}
 use Rattle.memory.proofs.FreshLaws.{new-bad, new-done}
 use Rattle.memory.proofs.Tasks.new.Goals as goal
