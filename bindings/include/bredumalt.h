@@ -5,9 +5,8 @@
  *   - of its C library memcpy, and nothing else; that is all that nm -u shows;
  *   - SSE registers, switched on, and saved by whoever interrupts;
  *   - the red zone: interrupts leave the 128 bytes below the stack pointer alone, or have a stack of their own;
- *   - stack: a call takes at most 1536 bytes, but bredumalt_parktime_arm_at takes at most 1744 bytes, counted from the machine code over
- *     every path, with the red zone and with what goes in and comes back by value. What memcpy takes comes on top, and some tens of
- *     bytes for an inline function that is not inlined.
+ *   - stack: a call takes at most 1536 bytes, counted from the machine code over every path, with the red zone and with what goes in and
+ *     comes back by value. What memcpy takes comes on top, and some tens of bytes for an inline function that is not inlined.
  * It keeps no data of its own. bindings/check.sh holds the archive to this.
  *
  * A table is a struct that the firmware keeps. Its arrays go to a call as pointers and are changed where they lie; its small part goes

@@ -45,9 +45,11 @@ fn plain(text: &str) -> String {
     text.split_whitespace().collect::<Vec<_>>().join(" ")
 }
 
-/// An operand of Rust or Rattle. A pointer to an array is one to its first element; a slice is a pointer and a length.
+/// An operand of Rust or Rattle. A pointer to an array is one to its first element; a slice is a pointer and a length. That an operand
+/// is changed inside (`mut`) is nothing to a caller.
 fn c_operands(operand: &str) -> Vec<String> {
     let (name, kind) = operand.split_once(": ").expect("an operand has a type");
+    let name = name.strip_prefix("mut ").unwrap_or(name);
     let element = |array: &str| c_type(array.trim_start_matches('[').split([';', ']']).next().unwrap());
     if let Some(pointed) = kind.strip_prefix("&mut [").filter(|pointed| !pointed.contains(';')) {
         return vec![format!("{} *{name}", element(pointed)), "size_t len".to_string()];

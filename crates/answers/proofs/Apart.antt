@@ -1,24 +1,13 @@
 -- Answers of the code that are one reply are one answer. `Coincide` speaks of replies; so it holds of the code's answers too.
-use mathlib.Core.Path.{◌≡◌, refl, sym, ◌∙◌, ap}
-use mathlib.Core.List.{List, [], ◌∷◌}
-use lib.ListN.{get_or}
+use Rattle.std.specs.Prelude.{◌≡◌, Bool, List, [], ◌∷◌, ℕ, get_or, Option, Some, None, Result, Ok, Err, option_map}
+use mathlib.Core.Path.{refl, sym, ◌∙◌, ap}
+use Rattle.ids.specs.declared.TaskId.{TaskId}
 use Rattle.answers.specs.declared.Refusal.{Refusal}
 use Rattle.answers.specs.declared.Refusal.TheVariants.{BadTable, BadSize, NotStarted, Again, BadCpu, CpuOff, ShortOut, BadTask, CookieBusy, TaskBusy, Full, BadLine, TooLong}
-use Rattle.answers.specs.declared.Ack as ack
-use Rattle.answers.specs.declared.Ack.TheVariants as ack-of
-use Rattle.answers.specs.declared.Told as told-answer
-use Rattle.answers.specs.declared.Told.TheVariants as told_of
-use Rattle.answers.specs.declared.Count as count
-use Rattle.answers.specs.declared.Count.TheVariants as count_of
-use Rattle.answers.specs.declared.Named as name
-use Rattle.answers.specs.declared.Named.TheVariants as name_of
 use Rattle.answers.specs.declared.State.{State}
 use Rattle.answers.specs.declared.State.TheVariants.{Empty, Ready, Running, Blocked}
-use Rattle.answers.specs.declared.Stated as stated
-use Rattle.answers.specs.declared.Stated.TheVariants as stated-of
-use Rattle.answers.specs.declared.Homed as homed
-use Rattle.answers.specs.declared.Homed.TheVariants as homed-of
-use Rattle.answers.specs.Answers.{refusal_no, state_no, ack_reply, told_reply, count_reply, named_reply, stated_reply, homed_reply}
+use Rattle.answers.specs.Reply.{Reply, refused, done, told, number, named, value}
+use Rattle.answers.specs.Answers.{refusal_no, state_no, reply, ack_reply, told_reply, count_reply, named_reply, stated_reply, homed_reply}
 
 -- NUMBERS AND CODES
 
@@ -58,53 +47,34 @@ same-state a b e = sym (by_code a) ∙ ap (λ n. get_or states n Empty) e ∙ by
 
 -- ANSWERS
 
-pub same-ack : (a b : ack.Ack) → ack_reply a ≡ ack_reply b → a ≡ b
-same-ack ack-of.Done ack-of.Done e = cc
-same-ack ack-of.Done (ack-of.Refused s) e = cc
-same-ack (ack-of.Refused r) ack-of.Done e = cc
-same-ack (ack-of.Refused r) (ack-of.Refused s) e = ap ack-of.Refused (same-refusal r s (cc))
+-- whatever a call says where it does not refuse, if that tells its values apart and is no refusal
+module _ {A : Type 0} (says : A → Reply) (apart : (x y : A) → says x ≡ says y → x ≡ y) (tells : (x : A) (n : ℕ) → says x ≡ refused n → ⊥) where
+  pub same-answer : (a b : Result A Refusal) → reply says a ≡ reply says b → a ≡ b
+  same-answer (Ok x) (Ok y) e = ap Ok (apart x y e)
+  same-answer (Ok x) (Err s) e = absurd (tells x (refusal_no s) e)
+  same-answer (Err r) (Ok y) e = absurd (tells y (refusal_no r) (sym e))
+  same-answer (Err r) (Err s) e = ap Err (same-refusal r s (cc))
 
-pub same-told : (a b : told-answer.Told) → told_reply a ≡ told_reply b → a ≡ b
-same-told (told_of.Is x) (told_of.Is y) e = cc
-same-told (told_of.Is x) (told_of.Refused s) e = cc
-same-told (told_of.Refused r) (told_of.Is y) e = cc
-same-told (told_of.Refused r) (told_of.Refused s) e = ap told_of.Refused (same-refusal r s (cc))
+pub same-ack : (a b : Result (Unit {0}) Refusal) → ack_reply a ≡ ack_reply b → a ≡ b
+same-ack a b e = same-answer (λ _. done) (λ x y z. refl) (λ x n z. cc) a b e
 
-pub same_count : (a b : count.Count) → count_reply a ≡ count_reply b → a ≡ b
-same_count (count_of.Is m) (count_of.Is n) e = cc
-same_count (count_of.Is m) (count_of.Refused s) e = cc
-same_count (count_of.Refused r) (count_of.Is n) e = cc
-same_count (count_of.Refused r) (count_of.Refused s) e = ap count_of.Refused (same-refusal r s (cc))
+pub same-told : (a b : Result Bool Refusal) → told_reply a ≡ told_reply b → a ≡ b
+same-told a b e = same-answer told (λ x y z. cc) (λ x n z. cc) a b e
 
-pub same-named : (a b : name.Named) → named_reply a ≡ named_reply b → a ≡ b
-same-named (name_of.Id t) (name_of.Id u) e = cc
-same-named (name_of.Id t) name_of.Nothing e = cc
-same-named (name_of.Id t) (name_of.Refused s) e = cc
-same-named name_of.Nothing (name_of.Id u) e = cc
-same-named name_of.Nothing name_of.Nothing e = cc
-same-named name_of.Nothing (name_of.Refused s) e = cc
-same-named (name_of.Refused r) (name_of.Id u) e = cc
-same-named (name_of.Refused r) name_of.Nothing e = cc
-same-named (name_of.Refused r) (name_of.Refused s) e = ap name_of.Refused (same-refusal r s (cc))
+pub same_count : (a b : Result ℕ Refusal) → count_reply a ≡ count_reply b → a ≡ b
+same_count a b e = same-answer number (λ x y z. cc) (λ x n z. cc) a b e
 
-pub same-stated : (a b : stated.Stated) → stated_reply a ≡ stated_reply b → a ≡ b
-same-stated (stated-of.Is v) (stated-of.Is w) e = ap stated-of.Is (same-state v w (cc))
-same-stated (stated-of.Is v) stated-of.Nothing e = cc
-same-stated (stated-of.Is v) (stated-of.Refused s) e = cc
-same-stated stated-of.Nothing (stated-of.Is w) e = cc
-same-stated stated-of.Nothing stated-of.Nothing e = cc
-same-stated stated-of.Nothing (stated-of.Refused s) e = cc
-same-stated (stated-of.Refused r) (stated-of.Is w) e = cc
-same-stated (stated-of.Refused r) stated-of.Nothing e = cc
-same-stated (stated-of.Refused r) (stated-of.Refused s) e = ap stated-of.Refused (same-refusal r s (cc))
+pub same-named : (a b : Result (Option TaskId) Refusal) → named_reply a ≡ named_reply b → a ≡ b
+same-named a b e = same-answer named (λ x y z. cc) (λ x n z. cc) a b e
 
-pub same-homed : (a b : homed.Homed) → homed_reply a ≡ homed_reply b → a ≡ b
-same-homed (homed-of.Cpu c) (homed-of.Cpu d) e = cc
-same-homed (homed-of.Cpu c) homed-of.Nothing e = cc
-same-homed (homed-of.Cpu c) (homed-of.Refused s) e = cc
-same-homed homed-of.Nothing (homed-of.Cpu d) e = cc
-same-homed homed-of.Nothing homed-of.Nothing e = cc
-same-homed homed-of.Nothing (homed-of.Refused s) e = cc
-same-homed (homed-of.Refused r) (homed-of.Cpu d) e = cc
-same-homed (homed-of.Refused r) homed-of.Nothing e = cc
-same-homed (homed-of.Refused r) (homed-of.Refused s) e = ap homed-of.Refused (same-refusal r s (cc))
+same-state-or_none : (a b : Option State) → option_map state_no a ≡ option_map state_no b → a ≡ b
+same-state-or_none None None e = refl
+same-state-or_none None (Some y) e = cc
+same-state-or_none (Some x) None e = cc
+same-state-or_none (Some x) (Some y) e = ap Some (same-state x y (cc))
+
+pub same-stated : (a b : Result (Option State) Refusal) → stated_reply a ≡ stated_reply b → a ≡ b
+same-stated a b e = same-answer (λ s. value (option_map state_no s)) (λ x y z. same-state-or_none x y (cc)) (λ x n z. cc) a b e
+
+pub same-homed : (a b : Result (Option ℕ) Refusal) → homed_reply a ≡ homed_reply b → a ≡ b
+same-homed a b e = same-answer value (λ x y z. cc) (λ x n z. cc) a b e

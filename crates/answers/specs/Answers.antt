@@ -1,22 +1,10 @@
--- Which reply each answer of the code is: document 01's number and values.
-use Rattle.std.proofs.Math.Option.{some, none}
-use Rattle.std.specs.Prelude.{ℕ}
+-- Which reply each answer of the code is: its number and its values on paper.
+use Rattle.std.specs.Prelude.{ℕ, Bool, Option, Result, Ok, Err, option_map}
+use Rattle.ids.specs.declared.TaskId.{TaskId}
 use Rattle.answers.specs.declared.Refusal.{Refusal}
 use Rattle.answers.specs.declared.Refusal.TheVariants.{BadTable, BadSize, NotStarted, Again, BadCpu, CpuOff, ShortOut, BadTask, CookieBusy, TaskBusy, Full, BadLine, TooLong}
-use Rattle.answers.specs.declared.Ack as ack
-use Rattle.answers.specs.declared.Ack.TheVariants as ack-of
-use Rattle.answers.specs.declared.Told as told-answer
-use Rattle.answers.specs.declared.Told.TheVariants as told_of
-use Rattle.answers.specs.declared.Count as count
-use Rattle.answers.specs.declared.Count.TheVariants as count_of
-use Rattle.answers.specs.declared.Named as name
-use Rattle.answers.specs.declared.Named.TheVariants as name_of
 use Rattle.answers.specs.declared.State.{State}
 use Rattle.answers.specs.declared.State.TheVariants.{Empty, Ready, Running, Blocked}
-use Rattle.answers.specs.declared.Stated as stated
-use Rattle.answers.specs.declared.Stated.TheVariants as stated-of
-use Rattle.answers.specs.declared.Homed as homed
-use Rattle.answers.specs.declared.Homed.TheVariants as homed-of
 use Rattle.answers.specs.Reply.{Reply, refused, done, told, number, named, value}
 
 abbrev pub refusal_no : Refusal → ℕ
@@ -34,22 +22,22 @@ refusal_no Full = 11
 refusal_no BadLine = 12
 refusal_no TooLong = 13
 
-abbrev pub ack_reply : ack.Ack → Reply
-ack_reply ack-of.Done = done
-ack_reply (ack-of.Refused r) = refused (refusal_no r)
+-- what a call says where it does not refuse, and else the number of its refusal
+abbrev pub reply : {A : Type 0} → (A → Reply) → Result A Refusal → Reply
+reply says (Ok a) = says a
+reply says (Err r) = refused (refusal_no r)
 
-abbrev pub told_reply : told-answer.Told → Reply
-told_reply (told_of.Is b) = told b
-told_reply (told_of.Refused r) = refused (refusal_no r)
+abbrev pub ack_reply : Result (Unit {0}) Refusal → Reply
+ack_reply r = reply (λ _. done) r
 
-abbrev pub count_reply : count.Count → Reply
-count_reply (count_of.Is n) = number n
-count_reply (count_of.Refused r) = refused (refusal_no r)
+abbrev pub told_reply : Result Bool Refusal → Reply
+told_reply r = reply told r
 
-abbrev pub named_reply : name.Named → Reply
-named_reply (name_of.Id t) = named (some t)
-named_reply name_of.Nothing = named none
-named_reply (name_of.Refused r) = refused (refusal_no r)
+abbrev pub count_reply : Result ℕ Refusal → Reply
+count_reply r = reply number r
+
+abbrev pub named_reply : Result (Option TaskId) Refusal → Reply
+named_reply r = reply named r
 
 -- the code of a state
 abbrev pub state_no : State → ℕ
@@ -58,12 +46,8 @@ state_no Ready = 1
 state_no Running = 2
 state_no Blocked = 3
 
-abbrev pub stated_reply : stated.Stated → Reply
-stated_reply (stated-of.Is s) = value (some (state_no s))
-stated_reply stated-of.Nothing = value none
-stated_reply (stated-of.Refused r) = refused (refusal_no r)
+abbrev pub stated_reply : Result (Option State) Refusal → Reply
+stated_reply r = reply (λ s. value (option_map state_no s)) r
 
-abbrev pub homed_reply : homed.Homed → Reply
-homed_reply (homed-of.Cpu c) = value (some c)
-homed_reply homed-of.Nothing = value none
-homed_reply (homed-of.Refused r) = refused (refusal_no r)
+abbrev pub homed_reply : Result (Option ℕ) Refusal → Reply
+homed_reply r = reply value r

@@ -1,6 +1,5 @@
 -- What any call can answer, on paper. Document 01, "Numbers a call can refuse with": a refusal is its number.
-use Rattle.std.specs.Prelude.{Bool, true, false, ℕ}
-use Rattle.std.proofs.Math.Option.{Option, some, none}
+use Rattle.std.specs.Prelude.{Bool, true, false, ℕ, Option, Some, None}
 use Rattle.ids.specs.declared.TaskId.{TaskId}
 
 pub data Reply : Type 0 where
@@ -41,24 +40,24 @@ Refused r = So (is_refused r)
 -- WHAT AN ANSWER GIVES, for whoever asks for one kind of answer alone: a test, a task, a switch
 
 abbrev pub told_by : Reply → Option Bool
-told_by (refused n) = none
-told_by done = none
-told_by (told b) = some b
-told_by (number n) = none
-told_by (named i) = none
-told_by (value v) = none
-told_by stays = none
-told_by (switched a b c) = none
+told_by (refused n) = None
+told_by done = None
+told_by (told b) = Some b
+told_by (number n) = None
+told_by (named i) = None
+told_by (value v) = None
+told_by stays = None
+told_by (switched a b c) = None
 
 abbrev pub named_by : Reply → Option TaskId
-named_by (refused n) = none
-named_by done = none
-named_by (told b) = none
-named_by (number n) = none
+named_by (refused n) = None
+named_by done = None
+named_by (told b) = None
+named_by (number n) = None
 named_by (named i) = i
-named_by (value v) = none
-named_by stays = none
-named_by (switched a b c) = none
+named_by (value v) = None
+named_by stays = None
+named_by (switched a b c) = None
 
 -- a switch that took place: whose turn ended, who runs, and whose stack is to be released
 pub record Switched : Type 0 where
@@ -67,11 +66,11 @@ pub record Switched : Type 0 where
   pub release : Option TaskId
 
 abbrev pub switched_by : Reply → Option Switched
-switched_by (refused n) = none
-switched_by done = none
-switched_by (told b) = none
-switched_by (number n) = none
-switched_by (named i) = none
-switched_by (value v) = none
-switched_by stays = none
-switched_by (switched a b c) = some (record { from = a; to = b; release = c })
+switched_by (refused n) = None
+switched_by done = None
+switched_by (told b) = None
+switched_by (number n) = None
+switched_by (named i) = None
+switched_by (value v) = None
+switched_by stays = None
+switched_by (switched a b c) = Some (record { from = a; to = b; release = c })

@@ -1,13 +1,15 @@
-// What calls answer. A call that makes or changes a table answers beside the table, so the answers hold no table.
+// What calls answer: a value, or why they refuse. A call that makes or changes a table by value hands the table back beside its answer.
 #![tactic(auto)]
 
-ghost use Rattle.std.specs.Prelude.{◌≡◌};
-ghost use Rattle.answers.specs.Answers.{refusal_no};
+ghost use Rattle.std.specs.Prelude.{◌≡◌, option_map};
+ghost use Rattle.ids.specs.declared.Token.{Token};
+ghost use Rattle.answers.specs.Reply.{Reply, done, told, number, named, value};
+ghost use Rattle.answers.specs.Answers.{refusal_no, state_no};
 
-use ids::TaskId;
+use ids::{TaskId, Token};
 
 // Why a call refuses. The order of the variants is that of their numbers.
-#[derive(Clone, Copy)]
+#[derive(Clone, Copy, Debug, PartialEq, Eq, Hash)]
 pub enum Refusal {
     BadTable,
     BadSize,
@@ -47,37 +49,15 @@ impl Refusal {
     }
 }
 
-// Done, with nothing to tell.
+// A table, handed back beside what the call answers.
 #[derive(Clone, Copy)]
-pub enum Ack {
-    Done,
-    Refused(Refusal),
-}
-
-// True or false.
-#[derive(Clone, Copy)]
-pub enum Told {
-    Is(bool),
-    Refused(Refusal),
-}
-
-// A number.
-#[derive(Clone, Copy)]
-pub enum Count {
-    Is(u64),
-    Refused(Refusal),
-}
-
-// A task, or none.
-#[derive(Clone, Copy)]
-pub enum Named {
-    Id(TaskId),
-    Nothing,
-    Refused(Refusal),
+pub struct Answered<T, A> {
+    pub table: T,
+    pub answer: Result<A, Refusal>,
 }
 
 // What a slot of a task table is.
-#[derive(Clone, Copy)]
+#[derive(Clone, Copy, Debug, PartialEq, Eq, Hash)]
 pub enum State {
     Empty,
     Ready,
@@ -85,18 +65,35 @@ pub enum State {
     Blocked,
 }
 
-// A state, or none.
-#[derive(Clone, Copy)]
-pub enum Stated {
-    Is(State),
-    Nothing,
-    Refused(Refusal),
+// What an answer of a type says on paper, where the call does not refuse.
+pub trait Says {
+    ghost says: { Self → Reply };
 }
 
-// A CPU, or none.
-#[derive(Clone, Copy)]
-pub enum Homed {
-    Cpu(u8),
-    Nothing,
-    Refused(Refusal),
+impl Says for () {
+    ghost says = { λ _. done };
+}
+
+impl Says for bool {
+    ghost says = { told };
+}
+
+impl Says for u64 {
+    ghost says = { number };
+}
+
+impl Says for Option<TaskId> {
+    ghost says = { named };
+}
+
+impl Says for Option<Token> {
+    ghost says = { λ o. value (option_map (λ (t : Token). t.0) o) };
+}
+
+impl Says for Option<State> {
+    ghost says = { λ o. value (option_map state_no o) };
+}
+
+impl Says for Option<u8> {
+    ghost says = { value };
 }

@@ -1,7 +1,6 @@
 -- What the contracts of exports say beside those of the calls that they wrap: operands that crossed as numbers, and answers that are
 -- one byte.
-use Rattle.std.specs.Prelude.{◌≡◌, Bool, ℕ}
-use Rattle.std.proofs.Math.Option.{Option}
+use Rattle.std.specs.Prelude.{◌≡◌, Bool, ℕ, Option}
 use Rattle.lists.specs.Search.{one_if}
 use Rattle.lists.specs.Tells.{Tells}
 use Rattle.answers.specs.Reply.{Reply}
@@ -12,7 +11,7 @@ use Rattle.runqueue.specs.Lent as ring-lent
 use Rattle.model.specs.Model.{Model}
 use Rattle.memory.specs.declared.Small.{Small}
 use Rattle.memory.specs.View.{view, table}
-use Rattle.memory.specs.Lent.{Changed, was, left}
+use Rattle.bredumalt.specs.Arrays.{Changed, was, left}
 use Rattle.numbers.specs.Operands.{MeetsNamed}
 
 -- a byte is 1 where a statement holds, and 0 where it does not

@@ -30,7 +30,7 @@ pub extern "C" fn bredumalt_parktime_new_at() -> Table
 pub extern "C" fn bredumalt_parktime_sound_at(table: Table) -> u8
     ensures { TellsByte result (Sound table) }
 {
-    numbers::byte(table.sound())
+    memory::flag(table.sound())
 }
 
 #[unsafe(no_mangle)]
@@ -42,11 +42,9 @@ pub extern "C" fn bredumalt_parktime_arm_at(
     ensures { Crossed result.answer (λ got. Meets deadlines table result.table got (arm_step (view table) task deadline)) }
 {
     let done = table.arm(task, deadline);
-    let table = done.table;
-    let answer = done.answer;
     DeadlinesAnswer {
-        table: table,
-        answer: numbers::from_ack(answer),
+        table: done.table,
+        answer: numbers::answer_of(done.answer),
     }
 }
 
@@ -55,11 +53,9 @@ pub extern "C" fn bredumalt_parktime_disarm_at(table: Table, task: TaskId) -> De
     ensures { Crossed result.answer (λ got. Meets deadlines table result.table got (disarm_step (view table) task)) }
 {
     let done = table.disarm(task);
-    let table = done.table;
-    let answer = done.answer;
     DeadlinesAnswer {
-        table: table,
-        answer: numbers::from_ack(answer),
+        table: done.table,
+        answer: numbers::answer_of(done.answer),
     }
 }
 
@@ -73,10 +69,8 @@ pub extern "C" fn bredumalt_parktime_poll_at(
     ensures { Crossed result.answer (λ got. Meets (lent deadlines) (table, out.old) (result.table, out.new) got (poll_step (view table, out.old) now)) }
 {
     let done = table.poll(now, out);
-    let table = done.table;
-    let answer = done.answer;
     DeadlinesAnswer {
-        table: table,
-        answer: numbers::from_count(answer),
+        table: done.table,
+        answer: numbers::answer_of(done.answer),
     }
 }

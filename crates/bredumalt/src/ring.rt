@@ -8,7 +8,7 @@ ghost use Rattle.bredumalt.specs.Named.{TellsByte, MeetsRingNamed};
 
 use answers::Refusal;
 use ids::TaskId;
-use numbers::{Answer, Flagged};
+use numbers::Answer;
 use runqueue::Span;
 
 // The span, beside what the call answers.
@@ -23,17 +23,15 @@ pub struct SpanAnswer {
 pub extern "C" fn bredumalt_runqueue_new_at(
     slots: &mut [u16; 64],
     epochs: &mut [u16; 64],
-    span: Span,
+    mut span: Span,
     n: usize,
 ) -> SpanAnswer
     ensures { Crossed result.answer (λ got. MakesLent slots epochs span result.span got (new_step n)) }
 {
-    let done = runqueue::new_at(slots, epochs, span, n);
-    let span = done.span;
-    let answer = done.answer;
+    let answer = runqueue::new_at(slots, epochs, &mut span, n);
     SpanAnswer {
-        span: span,
-        answer: numbers::from_ack(answer),
+        span,
+        answer: numbers::answer_of(answer),
     }
 }
 
@@ -42,35 +40,35 @@ pub extern "C" fn bredumalt_runqueue_new_at(
 pub extern "C" fn bredumalt_runqueue_sound_at(span: Span) -> u8
     ensures { TellsByte result (Fit span.n span.head span.len) }
 {
-    numbers::byte(runqueue::sound_at(span))
+    memory::flag(runqueue::sound_at(span))
 }
 
 #[unsafe(no_mangle)]
 pub extern "C" fn bredumalt_runqueue_capacity_at(span: Span) -> Answer
     ensures { Crossed result (λ got. AnswersAny span got capacity_reply) }
 {
-    numbers::from_count(runqueue::capacity_at(span))
+    numbers::answer_of(runqueue::capacity_at(span))
 }
 
 #[unsafe(no_mangle)]
 pub extern "C" fn bredumalt_runqueue_len_at(span: Span) -> Answer
     ensures { Crossed result (λ got. AnswersAny span got len_reply) }
 {
-    numbers::from_count(runqueue::len_at(span))
+    numbers::answer_of(runqueue::len_at(span))
 }
 
 #[unsafe(no_mangle)]
 pub extern "C" fn bredumalt_runqueue_is_empty_at(span: Span) -> Answer
     ensures { Crossed result (λ got. AnswersAny span got empty_reply) }
 {
-    numbers::from_told(runqueue::is_empty_at(span))
+    numbers::answer_of(runqueue::is_empty_at(span))
 }
 
 #[unsafe(no_mangle)]
 pub extern "C" fn bredumalt_runqueue_is_full_at(span: Span) -> Answer
     ensures { Crossed result (λ got. AnswersAny span got full_reply) }
 {
-    numbers::from_told(runqueue::is_full_at(span))
+    numbers::answer_of(runqueue::is_full_at(span))
 }
 
 // The entry at a place counted from the head; the head itself at 0.
@@ -83,24 +81,22 @@ pub extern "C" fn bredumalt_runqueue_ready_at_at<'a>(
 ) -> Answer
     ensures { Crossed result (λ got. AnswersLent slots epochs span got (λ q. ready_at_reply q index)) }
 {
-    numbers::from_named(runqueue::entry_at(slots, epochs, span, index))
+    numbers::answer_of(runqueue::entry_at(slots, epochs, span, index))
 }
 
 #[unsafe(no_mangle)]
 pub extern "C" fn bredumalt_runqueue_enqueue_at(
     slots: &mut [u16; 64],
     epochs: &mut [u16; 64],
-    span: Span,
+    mut span: Span,
     id: TaskId,
 ) -> SpanAnswer
     ensures { Crossed result.answer (λ got. MeetsLent slots epochs span result.span got (λ q. enqueue_step q id)) }
 {
-    let done = runqueue::enqueue_at(slots, epochs, span, id);
-    let span = done.span;
-    let answer = done.answer;
+    let answer = runqueue::enqueue_at(slots, epochs, &mut span, id);
     SpanAnswer {
-        span: span,
-        answer: numbers::from_ack(answer),
+        span,
+        answer: numbers::answer_of(answer),
     }
 }
 
@@ -108,16 +104,14 @@ pub extern "C" fn bredumalt_runqueue_enqueue_at(
 pub extern "C" fn bredumalt_runqueue_dequeue_at(
     slots: &mut [u16; 64],
     epochs: &mut [u16; 64],
-    span: Span,
+    mut span: Span,
 ) -> SpanAnswer
     ensures { Crossed result.answer (λ got. MeetsLent slots epochs span result.span got dequeue_step) }
 {
-    let done = runqueue::dequeue_at(slots, epochs, span);
-    let span = done.span;
-    let answer = done.answer;
+    let answer = runqueue::dequeue_at(slots, epochs, &mut span);
     SpanAnswer {
-        span: span,
-        answer: numbers::from_named(answer),
+        span,
+        answer: numbers::answer_of(answer),
     }
 }
 
@@ -126,31 +120,22 @@ pub extern "C" fn bredumalt_runqueue_dequeue_at(
 pub extern "C" fn bredumalt_runqueue_after_yield_at(
     slots: &mut [u16; 64],
     epochs: &mut [u16; 64],
-    span: Span,
+    mut span: Span,
     requeue: u8,
     id: TaskId,
 ) -> SpanAnswer
     ensures { Crossed result.answer (λ got. MeetsRingNamed slots epochs span result.span got (λ b q. after_yield_step q (id_if b id)) (flag_named requeue)) }
 {
-    let asked = numbers::flag_of(requeue);
-    match asked {
-        Flagged::Nothing => SpanAnswer {
-            span: span,
+    let Some(requeue) = numbers::flag_of(requeue) else {
+        return SpanAnswer {
+            span,
             answer: numbers::refusing(Refusal::BadLine),
-        },
-        Flagged::Is(known) => {
-            let done = runqueue::after_yield_at(
-                slots,
-                epochs,
-                span,
-                numbers::requeue_of(known, id),
-            );
-            let span = done.span;
-            let answer = done.answer;
-            SpanAnswer {
-                span: span,
-                answer: numbers::from_named(answer),
-            }
-        }
+        };
+    };
+    let who = numbers::requeue_of(requeue, id);
+    let answer = runqueue::after_yield_at(slots, epochs, &mut span, who);
+    SpanAnswer {
+        span,
+        answer: numbers::answer_of(answer),
     }
 }

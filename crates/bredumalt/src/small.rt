@@ -5,7 +5,6 @@ ghost use Rattle.lifecycle.specs.Verdicts.{reap_of, force_of, cancel_of};
 ghost use Rattle.numbers.specs.Operands.{flag_named, state_named, verdict_no, verdict_if};
 
 use ids::{TaskId, Token};
-use numbers::Flagged;
 
 #[unsafe(no_mangle)]
 pub extern "C" fn bredumalt_ids_to_raw(id: TaskId) -> Token
@@ -26,11 +25,10 @@ pub extern "C" fn bredumalt_ids_from_raw(raw: Token) -> TaskId
 pub extern "C" fn bredumalt_lifecycle_reap(is_idle: u8, state: u8) -> u8
     ensures { result ≡ verdict_if (λ b. reap_of b (state_named state)) (flag_named is_idle) }
 {
-    let asked = numbers::flag_of(is_idle);
     let target = numbers::target_of(state);
-    match asked {
-        Flagged::Nothing => 12,
-        Flagged::Is(idle) => numbers::from_reap(lifecycle::reap(idle, target)),
+    match numbers::flag_of(is_idle) {
+        None => 12,
+        Some(idle) => numbers::from_reap(lifecycle::reap(idle, target)),
     }
 }
 
@@ -38,11 +36,10 @@ pub extern "C" fn bredumalt_lifecycle_reap(is_idle: u8, state: u8) -> u8
 pub extern "C" fn bredumalt_lifecycle_force(is_idle: u8, state: u8) -> u8
     ensures { result ≡ verdict_if (λ b. force_of b (state_named state)) (flag_named is_idle) }
 {
-    let asked = numbers::flag_of(is_idle);
     let target = numbers::target_of(state);
-    match asked {
-        Flagged::Nothing => 12,
-        Flagged::Is(idle) => numbers::from_force(lifecycle::force(idle, target)),
+    match numbers::flag_of(is_idle) {
+        None => 12,
+        Some(idle) => numbers::from_force(lifecycle::force(idle, target)),
     }
 }
 

@@ -2,15 +2,15 @@
 ghost use Rattle.model.specs.Steps.{new_step, start_step, start_cpu_step, admit_step, mark_step, wake_step, collect_step};
 ghost use Rattle.model.specs.Switch.{try_steal_step, switch_step};
 ghost use Rattle.memory.specs.View.{Sound};
-ghost use Rattle.memory.specs.Lent.{stays, MakesLent, MeetsLent};
 ghost use Rattle.numbers.specs.Numbers.{Crossed};
 ghost use Rattle.numbers.specs.Operands.{kind_named, flag_named};
+ghost use Rattle.bredumalt.specs.Arrays.{stays, MakesLent, MeetsLent};
 ghost use Rattle.bredumalt.specs.Named.{MeetsLentNamed, TellsByte};
 
 use answers::Refusal;
 use ids::TaskId;
-use memory::Small;
-use numbers::{Answer, Asked, Flagged};
+use memory::{Small, TasksMut, TasksRef};
+use numbers::Answer;
 
 // The small part, beside what the call answers.
 #[repr(C)]
@@ -28,26 +28,24 @@ pub extern "C" fn bredumalt_tasks_new_at(
     marks: &mut [u8; 64],
     ring_slots: &mut [u16; 128],
     ring_epochs: &mut [u16; 128],
-    small: Small,
+    mut small: Small,
     n: usize,
 ) -> SmallAnswer
     ensures { Crossed result.answer (λ got. MakesLent states epochs homes marks ring_slots ring_epochs small result.small got (new_step n)) }
 {
-    let done = memory::new_at(
+    let mut t = TasksMut {
+        small: &mut small,
         states,
         epochs,
         homes,
         marks,
         ring_slots,
         ring_epochs,
-        small,
-        n,
-    );
-    let small = done.small;
-    let answer = done.answer;
+    };
+    let answer = memory::new_at(&mut t, n);
     SmallAnswer {
-        small: small,
-        answer: numbers::from_ack(answer),
+        small,
+        answer: numbers::answer_of(answer),
     }
 }
 
@@ -64,7 +62,16 @@ pub extern "C" fn bredumalt_tasks_sound_at<'a>(
 ) -> u8
     ensures { TellsByte result (Sound (stays states epochs homes marks ring_slots ring_epochs small)) }
 {
-    numbers::byte(checks::sound_at(states, epochs, homes, marks, ring_slots, ring_epochs, small))
+    let t = TasksRef {
+        small: &small,
+        states,
+        epochs,
+        homes,
+        marks,
+        ring_slots,
+        ring_epochs,
+    };
+    memory::flag(checks::sound_at(t))
 }
 
 #[unsafe(no_mangle)]
@@ -75,16 +82,23 @@ pub extern "C" fn bredumalt_tasks_start_at(
     marks: &mut [u8; 64],
     ring_slots: &mut [u16; 128],
     ring_epochs: &mut [u16; 128],
-    small: Small,
+    mut small: Small,
 ) -> SmallAnswer
     ensures { Crossed result.answer (λ got. MeetsLent states epochs homes marks ring_slots ring_epochs small result.small got start_step) }
 {
-    let done = tasks_lent::start_at(states, epochs, homes, marks, ring_slots, ring_epochs, small);
-    let small = done.small;
-    let answer = done.answer;
+    let mut t = TasksMut {
+        small: &mut small,
+        states,
+        epochs,
+        homes,
+        marks,
+        ring_slots,
+        ring_epochs,
+    };
+    let answer = tasks_lent::start_at(&mut t);
     SmallAnswer {
-        small: small,
-        answer: numbers::from_ack(answer),
+        small,
+        answer: numbers::answer_of(answer),
     }
 }
 
@@ -96,24 +110,23 @@ pub extern "C" fn bredumalt_tasks_start_cpu1_at(
     marks: &mut [u8; 64],
     ring_slots: &mut [u16; 128],
     ring_epochs: &mut [u16; 128],
-    small: Small,
+    mut small: Small,
 ) -> SmallAnswer
     ensures { Crossed result.answer (λ got. MeetsLent states epochs homes marks ring_slots ring_epochs small result.small got (λ m. start_cpu_step m 1)) }
 {
-    let done = tasks_lent::start_cpu1_at(
+    let mut t = TasksMut {
+        small: &mut small,
         states,
         epochs,
         homes,
         marks,
         ring_slots,
         ring_epochs,
-        small,
-    );
-    let small = done.small;
-    let answer = done.answer;
+    };
+    let answer = tasks_lent::start_cpu1_at(&mut t);
     SmallAnswer {
-        small: small,
-        answer: numbers::from_named(answer),
+        small,
+        answer: numbers::answer_of(answer),
     }
 }
 
@@ -125,26 +138,24 @@ pub extern "C" fn bredumalt_tasks_admit_on_at(
     marks: &mut [u8; 64],
     ring_slots: &mut [u16; 128],
     ring_epochs: &mut [u16; 128],
-    small: Small,
+    mut small: Small,
     cpu: u8,
 ) -> SmallAnswer
     ensures { Crossed result.answer (λ got. MeetsLent states epochs homes marks ring_slots ring_epochs small result.small got (λ m. admit_step m cpu)) }
 {
-    let done = tasks_lent::admit_on_at(
+    let mut t = TasksMut {
+        small: &mut small,
         states,
         epochs,
         homes,
         marks,
         ring_slots,
         ring_epochs,
-        small,
-        cpu,
-    );
-    let small = done.small;
-    let answer = done.answer;
+    };
+    let answer = tasks_lent::admit_on_at(&mut t, cpu);
     SmallAnswer {
-        small: small,
-        answer: numbers::from_named(answer),
+        small,
+        answer: numbers::answer_of(answer),
     }
 }
 
@@ -156,26 +167,24 @@ pub extern "C" fn bredumalt_tasks_wake_at(
     marks: &mut [u8; 64],
     ring_slots: &mut [u16; 128],
     ring_epochs: &mut [u16; 128],
-    small: Small,
+    mut small: Small,
     id: TaskId,
 ) -> SmallAnswer
     ensures { Crossed result.answer (λ got. MeetsLent states epochs homes marks ring_slots ring_epochs small result.small got (λ m. wake_step m id)) }
 {
-    let done = tasks_lent::wake_at(
+    let mut t = TasksMut {
+        small: &mut small,
         states,
         epochs,
         homes,
         marks,
         ring_slots,
         ring_epochs,
-        small,
-        id,
-    );
-    let small = done.small;
-    let answer = done.answer;
+    };
+    let answer = tasks_lent::wake_at(&mut t, id);
     SmallAnswer {
-        small: small,
-        answer: numbers::from_told(answer),
+        small,
+        answer: numbers::answer_of(answer),
     }
 }
 
@@ -187,16 +196,23 @@ pub extern "C" fn bredumalt_tasks_collect_at(
     marks: &mut [u8; 64],
     ring_slots: &mut [u16; 128],
     ring_epochs: &mut [u16; 128],
-    small: Small,
+    mut small: Small,
 ) -> SmallAnswer
     ensures { Crossed result.answer (λ got. MeetsLent states epochs homes marks ring_slots ring_epochs small result.small got collect_step) }
 {
-    let done = tasks_lent::collect_at(states, epochs, homes, marks, ring_slots, ring_epochs, small);
-    let small = done.small;
-    let answer = done.answer;
+    let mut t = TasksMut {
+        small: &mut small,
+        states,
+        epochs,
+        homes,
+        marks,
+        ring_slots,
+        ring_epochs,
+    };
+    let answer = tasks_lent::collect_at(&mut t);
     SmallAnswer {
-        small: small,
-        answer: numbers::from_named(answer),
+        small,
+        answer: numbers::answer_of(answer),
     }
 }
 
@@ -208,26 +224,24 @@ pub extern "C" fn bredumalt_tasks_try_steal_into_at(
     marks: &mut [u8; 64],
     ring_slots: &mut [u16; 128],
     ring_epochs: &mut [u16; 128],
-    small: Small,
+    mut small: Small,
     thief: u8,
 ) -> SmallAnswer
     ensures { Crossed result.answer (λ got. MeetsLent states epochs homes marks ring_slots ring_epochs small result.small got (λ m. try_steal_step m thief)) }
 {
-    let done = tasks_lent::try_steal_into_at(
+    let mut t = TasksMut {
+        small: &mut small,
         states,
         epochs,
         homes,
         marks,
         ring_slots,
         ring_epochs,
-        small,
-        thief,
-    );
-    let small = done.small;
-    let answer = done.answer;
+    };
+    let answer = tasks_lent::try_steal_into_at(&mut t, thief);
     SmallAnswer {
-        small: small,
-        answer: numbers::from_told(answer),
+        small,
+        answer: numbers::answer_of(answer),
     }
 }
 
@@ -240,37 +254,31 @@ pub extern "C" fn bredumalt_tasks_set_stealeable_at(
     marks: &mut [u8; 64],
     ring_slots: &mut [u16; 128],
     ring_epochs: &mut [u16; 128],
-    small: Small,
+    mut small: Small,
     id: TaskId,
     mark: u8,
 ) -> SmallAnswer
     ensures { Crossed result.answer (λ got. MeetsLentNamed states epochs homes marks ring_slots ring_epochs small result.small got (λ b m. mark_step m id b) (flag_named mark)) }
 {
-    let asked = numbers::flag_of(mark);
-    match asked {
-        Flagged::Nothing => SmallAnswer {
-            small: small,
+    let Some(mark) = numbers::flag_of(mark) else {
+        return SmallAnswer {
+            small,
             answer: numbers::refusing(Refusal::BadLine),
-        },
-        Flagged::Is(known) => {
-            let done = tasks_lent::set_stealeable_at(
-                states,
-                epochs,
-                homes,
-                marks,
-                ring_slots,
-                ring_epochs,
-                small,
-                id,
-                known,
-            );
-            let small = done.small;
-            let answer = done.answer;
-            SmallAnswer {
-                small: small,
-                answer: numbers::from_told(answer),
-            }
-        }
+        };
+    };
+    let mut t = TasksMut {
+        small: &mut small,
+        states,
+        epochs,
+        homes,
+        marks,
+        ring_slots,
+        ring_epochs,
+    };
+    let answer = tasks_lent::set_stealeable_at(&mut t, id, mark);
+    SmallAnswer {
+        small,
+        answer: numbers::answer_of(answer),
     }
 }
 
@@ -283,36 +291,30 @@ pub extern "C" fn bredumalt_tasks_switch_on_at(
     marks: &mut [u8; 64],
     ring_slots: &mut [u16; 128],
     ring_epochs: &mut [u16; 128],
-    small: Small,
+    mut small: Small,
     cpu: u8,
     kind: u8,
 ) -> SmallAnswer
     ensures { Crossed result.answer (λ got. MeetsLentNamed states epochs homes marks ring_slots ring_epochs small result.small got (λ k m. switch_step m cpu k) (kind_named kind)) }
 {
-    let asked = numbers::kind_of(kind);
-    match asked {
-        Asked::Nothing => SmallAnswer {
-            small: small,
+    let Some(kind) = numbers::kind_of(kind) else {
+        return SmallAnswer {
+            small,
             answer: numbers::refusing(Refusal::BadLine),
-        },
-        Asked::Is(known) => {
-            let done = tasks_lent::switch_on_at(
-                states,
-                epochs,
-                homes,
-                marks,
-                ring_slots,
-                ring_epochs,
-                small,
-                cpu,
-                known,
-            );
-            let small = done.small;
-            let answer = done.answer;
-            SmallAnswer {
-                small: small,
-                answer: numbers::from_decision(answer),
-            }
-        }
+        };
+    };
+    let mut t = TasksMut {
+        small: &mut small,
+        states,
+        epochs,
+        homes,
+        marks,
+        ring_slots,
+        ring_epochs,
+    };
+    let answer = tasks_lent::switch_on_at(&mut t, cpu, kind);
+    SmallAnswer {
+        small,
+        answer: numbers::answer_of(answer),
     }
 }

@@ -1,10 +1,10 @@
 // What a task table tells: pointers to its arrays, and its small part by value.
 ghost use Rattle.model.specs.Reads.{current_reply, idle_reply, ready_reply, started_reply, state_reply, home_reply, live_reply, stealeable_reply, can_steal_reply, overwrites_reply, blocked_reply, block_events_reply, live_count_reply, peak_reply};
-ghost use Rattle.memory.specs.Lent.{AnswersLent};
 ghost use Rattle.numbers.specs.Numbers.{Crossed};
+ghost use Rattle.bredumalt.specs.Arrays.{AnswersLent};
 
 use ids::TaskId;
-use memory::Small;
+use memory::{Small, TasksRef};
 use numbers::Answer;
 
 #[unsafe(no_mangle)]
@@ -20,16 +20,16 @@ pub extern "C" fn bredumalt_tasks_current_on_at<'a>(
 ) -> Answer
     ensures { Crossed result (λ got. AnswersLent states epochs homes marks ring_slots ring_epochs small got (λ m. current_reply m cpu)) }
 {
-    numbers::from_named(tasks_lent::current_on_at(
+    let t = TasksRef {
+        small: &small,
         states,
         epochs,
         homes,
         marks,
         ring_slots,
         ring_epochs,
-        small,
-        cpu,
-    ))
+    };
+    numbers::answer_of(tasks_lent::current_on_at(t, cpu))
 }
 
 #[unsafe(no_mangle)]
@@ -45,16 +45,16 @@ pub extern "C" fn bredumalt_tasks_idle_of_at<'a>(
 ) -> Answer
     ensures { Crossed result (λ got. AnswersLent states epochs homes marks ring_slots ring_epochs small got (λ m. idle_reply m cpu)) }
 {
-    numbers::from_named(tasks_lent::idle_of_at(
+    let t = TasksRef {
+        small: &small,
         states,
         epochs,
         homes,
         marks,
         ring_slots,
         ring_epochs,
-        small,
-        cpu,
-    ))
+    };
+    numbers::answer_of(tasks_lent::idle_of_at(t, cpu))
 }
 
 #[unsafe(no_mangle)]
@@ -70,16 +70,16 @@ pub extern "C" fn bredumalt_tasks_has_ready_on_at<'a>(
 ) -> Answer
     ensures { Crossed result (λ got. AnswersLent states epochs homes marks ring_slots ring_epochs small got (λ m. ready_reply m cpu)) }
 {
-    numbers::from_told(tasks_lent::has_ready_on_at(
+    let t = TasksRef {
+        small: &small,
         states,
         epochs,
         homes,
         marks,
         ring_slots,
         ring_epochs,
-        small,
-        cpu,
-    ))
+    };
+    numbers::answer_of(tasks_lent::has_ready_on_at(t, cpu))
 }
 
 #[unsafe(no_mangle)]
@@ -94,15 +94,16 @@ pub extern "C" fn bredumalt_tasks_cpu1_started_at<'a>(
 ) -> Answer
     ensures { Crossed result (λ got. AnswersLent states epochs homes marks ring_slots ring_epochs small got (λ m. started_reply m 1)) }
 {
-    numbers::from_told(tasks_lent::cpu1_started_at(
+    let t = TasksRef {
+        small: &small,
         states,
         epochs,
         homes,
         marks,
         ring_slots,
         ring_epochs,
-        small,
-    ))
+    };
+    numbers::answer_of(tasks_lent::cpu1_started_at(t))
 }
 
 #[unsafe(no_mangle)]
@@ -118,16 +119,16 @@ pub extern "C" fn bredumalt_tasks_state_at<'a>(
 ) -> Answer
     ensures { Crossed result (λ got. AnswersLent states epochs homes marks ring_slots ring_epochs small got (λ m. state_reply m id)) }
 {
-    numbers::from_stated(tasks_lent::state_at(
+    let t = TasksRef {
+        small: &small,
         states,
         epochs,
         homes,
         marks,
         ring_slots,
         ring_epochs,
-        small,
-        id,
-    ))
+    };
+    numbers::answer_of(tasks_lent::state_at(t, id))
 }
 
 #[unsafe(no_mangle)]
@@ -143,16 +144,16 @@ pub extern "C" fn bredumalt_tasks_home_of_at<'a>(
 ) -> Answer
     ensures { Crossed result (λ got. AnswersLent states epochs homes marks ring_slots ring_epochs small got (λ m. home_reply m id)) }
 {
-    numbers::from_homed(tasks_lent::home_of_at(
+    let t = TasksRef {
+        small: &small,
         states,
         epochs,
         homes,
         marks,
         ring_slots,
         ring_epochs,
-        small,
-        id,
-    ))
+    };
+    numbers::answer_of(tasks_lent::home_of_at(t, id))
 }
 
 #[unsafe(no_mangle)]
@@ -168,16 +169,16 @@ pub extern "C" fn bredumalt_tasks_live_id_at<'a>(
 ) -> Answer
     ensures { Crossed result (λ got. AnswersLent states epochs homes marks ring_slots ring_epochs small got (λ m. live_reply m slot)) }
 {
-    numbers::from_named(tasks_lent::live_id_at(
+    let t = TasksRef {
+        small: &small,
         states,
         epochs,
         homes,
         marks,
         ring_slots,
         ring_epochs,
-        small,
-        slot,
-    ))
+    };
+    numbers::answer_of(tasks_lent::live_id_at(t, slot))
 }
 
 #[unsafe(no_mangle)]
@@ -193,16 +194,16 @@ pub extern "C" fn bredumalt_tasks_is_stealeable_at<'a>(
 ) -> Answer
     ensures { Crossed result (λ got. AnswersLent states epochs homes marks ring_slots ring_epochs small got (λ m. stealeable_reply m id)) }
 {
-    numbers::from_told(tasks_lent::is_stealeable_at(
+    let t = TasksRef {
+        small: &small,
         states,
         epochs,
         homes,
         marks,
         ring_slots,
         ring_epochs,
-        small,
-        id,
-    ))
+    };
+    numbers::answer_of(tasks_lent::is_stealeable_at(t, id))
 }
 
 #[unsafe(no_mangle)]
@@ -218,16 +219,16 @@ pub extern "C" fn bredumalt_tasks_can_steal_into_at<'a>(
 ) -> Answer
     ensures { Crossed result (λ got. AnswersLent states epochs homes marks ring_slots ring_epochs small got (λ m. can_steal_reply m thief)) }
 {
-    numbers::from_told(tasks_lent::can_steal_into_at(
+    let t = TasksRef {
+        small: &small,
         states,
         epochs,
         homes,
         marks,
         ring_slots,
         ring_epochs,
-        small,
-        thief,
-    ))
+    };
+    numbers::answer_of(tasks_lent::can_steal_into_at(t, thief))
 }
 
 #[unsafe(no_mangle)]
@@ -242,15 +243,16 @@ pub extern "C" fn bredumalt_tasks_overwrites_at<'a>(
 ) -> Answer
     ensures { Crossed result (λ got. AnswersLent states epochs homes marks ring_slots ring_epochs small got overwrites_reply) }
 {
-    numbers::from_count(tasks_lent::overwrites_at(
+    let t = TasksRef {
+        small: &small,
         states,
         epochs,
         homes,
         marks,
         ring_slots,
         ring_epochs,
-        small,
-    ))
+    };
+    numbers::answer_of(tasks_lent::overwrites_at(t))
 }
 
 #[unsafe(no_mangle)]
@@ -265,15 +267,16 @@ pub extern "C" fn bredumalt_tasks_blocked_count_at<'a>(
 ) -> Answer
     ensures { Crossed result (λ got. AnswersLent states epochs homes marks ring_slots ring_epochs small got blocked_reply) }
 {
-    numbers::from_count(tasks_lent::blocked_count_at(
+    let t = TasksRef {
+        small: &small,
         states,
         epochs,
         homes,
         marks,
         ring_slots,
         ring_epochs,
-        small,
-    ))
+    };
+    numbers::answer_of(tasks_lent::blocked_count_at(t))
 }
 
 #[unsafe(no_mangle)]
@@ -288,15 +291,16 @@ pub extern "C" fn bredumalt_tasks_block_events_at<'a>(
 ) -> Answer
     ensures { Crossed result (λ got. AnswersLent states epochs homes marks ring_slots ring_epochs small got block_events_reply) }
 {
-    numbers::from_count(tasks_lent::block_events_at(
+    let t = TasksRef {
+        small: &small,
         states,
         epochs,
         homes,
         marks,
         ring_slots,
         ring_epochs,
-        small,
-    ))
+    };
+    numbers::answer_of(tasks_lent::block_events_at(t))
 }
 
 #[unsafe(no_mangle)]
@@ -311,15 +315,16 @@ pub extern "C" fn bredumalt_tasks_live_count_at<'a>(
 ) -> Answer
     ensures { Crossed result (λ got. AnswersLent states epochs homes marks ring_slots ring_epochs small got live_count_reply) }
 {
-    numbers::from_count(tasks_lent::live_count_at(
+    let t = TasksRef {
+        small: &small,
         states,
         epochs,
         homes,
         marks,
         ring_slots,
         ring_epochs,
-        small,
-    ))
+    };
+    numbers::answer_of(tasks_lent::live_count_at(t))
 }
 
 #[unsafe(no_mangle)]
@@ -334,13 +339,14 @@ pub extern "C" fn bredumalt_tasks_peak_slots_at<'a>(
 ) -> Answer
     ensures { Crossed result (λ got. AnswersLent states epochs homes marks ring_slots ring_epochs small got peak_reply) }
 {
-    numbers::from_count(tasks_lent::peak_slots_at(
+    let t = TasksRef {
+        small: &small,
         states,
         epochs,
         homes,
         marks,
         ring_slots,
         ring_epochs,
-        small,
-    ))
+    };
+    numbers::answer_of(tasks_lent::peak_slots_at(t))
 }

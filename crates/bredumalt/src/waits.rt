@@ -34,9 +34,9 @@ pub extern "C" fn bredumalt_irqwait_new_at(
 ) -> Waiters
     ensures { Makes waits (lent pending.exit slots.exit epochs.exit result.all) done new_step }
 {
-    Waiters {
-        all: irqwait::new_at(pending, slots, epochs),
-    }
+    let mut all = [Waiter::FREE; 8];
+    irqwait::new_at(pending, slots, epochs, &mut all);
+    Waiters { all }
 }
 
 // 1 where the table is sound, else 0.
@@ -49,8 +49,7 @@ pub extern "C" fn bredumalt_irqwait_sound_at<'a>(
 ) -> u8
     ensures { TellsByte result (Sound (whole pending.now slots.now epochs.now waiters.all)) }
 {
-    let all = waiters.all;
-    numbers::byte(irqwait::sound_at(pending, slots, epochs, all))
+    memory::flag(irqwait::sound_at(pending, slots, epochs, &waiters.all))
 }
 
 #[unsafe(no_mangle)]
@@ -58,19 +57,16 @@ pub extern "C" fn bredumalt_irqwait_arm_at(
     pending: &mut [u8; 64],
     slots: &mut [u16; 64],
     epochs: &mut [u16; 64],
-    waiters: Waiters,
+    mut waiters: Waiters,
     cookie: Cookie,
     task: TaskId,
 ) -> WaitersAnswer
     ensures { Crossed result.answer (λ got. MeetsLent pending slots epochs waiters.all result.waiters.all got (λ w. arm_step w cookie.0 task)) }
 {
-    let all = waiters.all;
-    let done = irqwait::arm_at(pending, slots, epochs, all, cookie, task);
-    let left = done.waiters;
-    let answer = done.answer;
+    let answer = irqwait::arm_at(pending, slots, epochs, &mut waiters.all, cookie, task);
     WaitersAnswer {
-        waiters: Waiters { all: left },
-        answer: numbers::from_ack(answer),
+        waiters,
+        answer: numbers::answer_of(answer),
     }
 }
 
@@ -79,18 +75,15 @@ pub extern "C" fn bredumalt_irqwait_disarm_task_at(
     pending: &mut [u8; 64],
     slots: &mut [u16; 64],
     epochs: &mut [u16; 64],
-    waiters: Waiters,
+    mut waiters: Waiters,
     task: TaskId,
 ) -> WaitersAnswer
     ensures { Crossed result.answer (λ got. MeetsLent pending slots epochs waiters.all result.waiters.all got (λ w. disarm_step w task)) }
 {
-    let all = waiters.all;
-    let done = irqwait::disarm_task_at(pending, slots, epochs, all, task);
-    let left = done.waiters;
-    let answer = done.answer;
+    let answer = irqwait::disarm_task_at(pending, slots, epochs, &mut waiters.all, task);
     WaitersAnswer {
-        waiters: Waiters { all: left },
-        answer: numbers::from_ack(answer),
+        waiters,
+        answer: numbers::answer_of(answer),
     }
 }
 
@@ -99,18 +92,15 @@ pub extern "C" fn bredumalt_irqwait_signal_at(
     pending: &mut [u8; 64],
     slots: &mut [u16; 64],
     epochs: &mut [u16; 64],
-    waiters: Waiters,
+    mut waiters: Waiters,
     cookie: Cookie,
 ) -> WaitersAnswer
     ensures { Crossed result.answer (λ got. MeetsLent pending slots epochs waiters.all result.waiters.all got (λ w. signal_step w cookie.0)) }
 {
-    let all = waiters.all;
-    let done = irqwait::signal_at(pending, slots, epochs, all, cookie);
-    let left = done.waiters;
-    let answer = done.answer;
+    let answer = irqwait::signal_at(pending, slots, epochs, &mut waiters.all, cookie);
     WaitersAnswer {
-        waiters: Waiters { all: left },
-        answer: numbers::from_named(answer),
+        waiters,
+        answer: numbers::answer_of(answer),
     }
 }
 
@@ -119,18 +109,15 @@ pub extern "C" fn bredumalt_irqwait_take_pending_at(
     pending: &mut [u8; 64],
     slots: &mut [u16; 64],
     epochs: &mut [u16; 64],
-    waiters: Waiters,
+    mut waiters: Waiters,
     task: TaskId,
 ) -> WaitersAnswer
     ensures { Crossed result.answer (λ got. MeetsLent pending slots epochs waiters.all result.waiters.all got (λ w. take_step w task)) }
 {
-    let all = waiters.all;
-    let done = irqwait::take_pending_at(pending, slots, epochs, all, task);
-    let left = done.waiters;
-    let answer = done.answer;
+    let answer = irqwait::take_pending_at(pending, slots, epochs, &mut waiters.all, task);
     WaitersAnswer {
-        waiters: Waiters { all: left },
-        answer: numbers::from_told(answer),
+        waiters,
+        answer: numbers::answer_of(answer),
     }
 }
 
@@ -144,6 +131,6 @@ pub extern "C" fn bredumalt_irqwait_is_pending_at<'a>(
 ) -> Answer
     ensures { Crossed result (λ got. AnswersLent pending slots epochs waiters.all got (λ w. pending_reply w task)) }
 {
-    let all = waiters.all;
-    numbers::from_told(irqwait::is_pending_at(pending, slots, epochs, all, task))
+    let answer = irqwait::is_pending_at(pending, slots, epochs, &waiters.all, task);
+    numbers::answer_of(answer)
 }

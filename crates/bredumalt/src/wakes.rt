@@ -18,15 +18,17 @@ pub struct EndsAnswer {
 }
 
 #[unsafe(no_mangle)]
-pub extern "C" fn bredumalt_wake_new_at(tokens: &mut [u32; 64], ends: Ends, c: usize) -> EndsAnswer
+pub extern "C" fn bredumalt_wake_new_at(
+    tokens: &mut [u32; 64],
+    mut ends: Ends,
+    c: usize,
+) -> EndsAnswer
     ensures { Crossed result.answer (λ got. MakesLent tokens ends result.ends got (new_step c)) }
 {
-    let done = wake::new_at(tokens, ends, c);
-    let ends = done.ends;
-    let answer = done.answer;
+    let answer = wake::new_at(tokens, &mut ends, c);
     EndsAnswer {
-        ends: ends,
-        answer: numbers::from_ack(answer),
+        ends,
+        answer: numbers::answer_of(answer),
     }
 }
 
@@ -35,49 +37,45 @@ pub extern "C" fn bredumalt_wake_new_at(tokens: &mut [u32; 64], ends: Ends, c: u
 pub extern "C" fn bredumalt_wake_sound_at(ends: Ends) -> u8
     ensures { TellsByte result (Fit ends.c ends.head ends.tail) }
 {
-    numbers::byte(wake::sound_at(ends))
+    memory::flag(wake::sound_at(ends))
 }
 
 #[unsafe(no_mangle)]
 pub extern "C" fn bredumalt_wake_drops_at(ends: Ends) -> Answer
     ensures { Crossed result (λ got. AnswersAny ends got drops_reply) }
 {
-    numbers::from_count(wake::drops_at(ends))
+    numbers::answer_of(wake::drops_at(ends))
 }
 
 #[unsafe(no_mangle)]
 pub extern "C" fn bredumalt_wake_is_empty_at(ends: Ends) -> Answer
     ensures { Crossed result (λ got. AnswersAny ends got empty_reply) }
 {
-    numbers::from_told(wake::is_empty_at(ends))
+    numbers::answer_of(wake::is_empty_at(ends))
 }
 
 #[unsafe(no_mangle)]
 pub extern "C" fn bredumalt_wake_push_at(
     tokens: &mut [u32; 64],
-    ends: Ends,
+    mut ends: Ends,
     token: Token,
 ) -> EndsAnswer
     ensures { Crossed result.answer (λ got. MeetsLent tokens ends result.ends got (λ q. push_step q token.0)) }
 {
-    let done = wake::push_at(tokens, ends, token);
-    let ends = done.ends;
-    let answer = done.answer;
+    let answer = wake::push_at(tokens, &mut ends, token);
     EndsAnswer {
-        ends: ends,
-        answer: numbers::from_told(answer),
+        ends,
+        answer: numbers::answer_of(answer),
     }
 }
 
 #[unsafe(no_mangle)]
-pub extern "C" fn bredumalt_wake_pop_at(tokens: &mut [u32; 64], ends: Ends) -> EndsAnswer
+pub extern "C" fn bredumalt_wake_pop_at(tokens: &mut [u32; 64], mut ends: Ends) -> EndsAnswer
     ensures { Crossed result.answer (λ got. MeetsLent tokens ends result.ends got pop_step) }
 {
-    let done = wake::pop_at(tokens, ends);
-    let ends = done.ends;
-    let answer = done.answer;
+    let answer = wake::pop_at(tokens, &mut ends);
     EndsAnswer {
-        ends: ends,
-        answer: numbers::from_popped(answer),
+        ends,
+        answer: numbers::answer_of(answer),
     }
 }

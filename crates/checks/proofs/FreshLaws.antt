@@ -1,6 +1,6 @@
 -- A table whose parts are blank is one just made, as the model says it.
+use Rattle.std.specs.Prelude.{Some, None}
 use Rattle.std.proofs.Common.{◌≡◌, ℕ, ◌*◌, ◌<◌, ◌≤◌, Bool, true, false, cond, List, length, get_or, take, replicate, sym, refl, ap, ◌∙◌, arith, length-take-le, get_or-take, ext_get_or}
-use mathlib.Core.Option.{some, none}
 use lib.ListN.{length-replicate, get_or-replicate}
 use Rattle.lists.specs.Tab.{tab}
 use Rattle.lists.proofs.Basics.{get_or-all, map-replicate}
@@ -27,7 +27,7 @@ blank-tab d n f same =
     ext_get_or d (tab n f) (replicate n d) (length-tab n f ∙ sym (length-replicate n d))
     (λ i p. let q : i < n = rw (length-tab n f) at p in get_or-tab n f i d q ∙ same i q ∙ sym (get_or-replicate n i d d q))
 
-not_parked : {A : Type 0} (b : Bool) (x : A) → cond b (some x) none ≡ none → b ≡ false
+not_parked : {A : Type 0} (b : Bool) (x : A) → cond b (Some x) None ≡ None → b ≡ false
 not_parked true x e = let z : ◌≡◌ {A = ℕ} 0 1 = cc in absurd (omega arith)
 not_parked false x e = refl
 

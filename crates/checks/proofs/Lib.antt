@@ -6,6 +6,4 @@ pub mod ReadLaws
 pub mod LiveLaws
 pub mod FreshLaws
 pub mod SoundLaws
-pub mod Returns
 pub mod LoopLaws
-pub mod WholeReturns

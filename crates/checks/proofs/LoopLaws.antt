@@ -1,21 +1,24 @@
 -- The loops that test every ring, every slot or every CPU: what holds below i and at i holds below i + 1.
-use Rattle.std.proofs.Common.{◌≡◌, ℕ, zero, suc, ◌+◌, ◌<◌, ◌≤◌, Bool, true, false, cond, not, eqb, List, [], ◌∷◌, ◌++◌, get_or, sym, refl, ap, ◌∙◌, add-one, arith, below_more, eq-eqb, ne_eqb, eqb-true}
+use Rattle.std.proofs.Common.{◌≡◌, ℕ, zero, suc, ◌+◌, ◌*◌, ◌<◌, ◌≤◌, Bool, true, false, cond, not, eqb, List, [], ◌∷◌, ◌++◌, get_or, sym, refl, ap, ◌∙◌, add-one, arith, below_more, eq-eqb, ne_eqb, eqb-true}
 use native.Mathlib.Decide.{ℕ_discrete}
 use borrow.Author.Tests.{eqb-false, not-false}
 use Rattle.lists.specs.Tells.{Tells}
 use Rattle.lists.specs.Tab.{tab}
 use Rattle.lists.specs.Search.{count_of, one_if}
-use Rattle.lists.proofs.Basics.{not_both, tells_yes, tells_by}
+use Rattle.lists.proofs.Basics.{tells_yes, tells_by}
 use Rattle.lists.proofs.TabLaws.{tab-snoc}
-use Rattle.ids.specs.declared.TaskId.{TaskId}
-use Rattle.ids.specs.Id.{same_id}
-use Rattle.ids.proofs.IdLaws.{same_self}
-use Rattle.model.specs.Model.{EMPTY}
-use Rattle.checks.specs.Parts.{SlotFits, Misfits, occupied_in, SlotsFit}
+use Rattle.runqueue.specs.Ring.{placed, id_at}
+use Rattle.model.specs.Model.{EMPTY, READY}
+use Rattle.memory.specs.View.{SPAN}
+use Rattle.checks.specs.Walk.{Notes}
+use Rattle.checks.specs.Parts.{noted, Free, entry_at, SlotFits, Misfits, occupied_in}
 use Rattle.checks.proofs.SlotLaws.{one_most, one_zero}
 
-pub not_same : {a b : TaskId} → same_id a b ≡ false → a ≡ b → ⊥
-not_same {a} {b} n e = not_both (ap (λ x. same_id x b) e ∙ same_self b) n
+-- AN ENTRY OF A QUEUE
+
+-- by its index in the arrays of the rings
+pub entry-noted : (epochs homes slots tenures : List ℕ) (n c head j at : ℕ) (want : List ℕ) {u : List ℕ} {r : Bool} → at ≡ c * SPAN + placed n (head + j) → Notes r (Free epochs homes n c (id_at slots tenures at) want) (noted READY (id_at slots tenures at) want) u → Notes r (Free epochs homes n c (entry_at slots tenures n c head j) want) (noted READY (entry_at slots tenures n c head j) want) u
+entry-noted epochs homes slots tenures n c head j at want e g = rw e at g
 
 -- THE SUMS OVER THE SLOTS
 
@@ -70,6 +73,3 @@ module _ (states homes marks want : List ℕ) where
             (ap (λ x. x + u) s.used_is ∙ ap (λ x. occupied_in states i + x) e ∙ sym (count-snoc (λ s. not (eqb s EMPTY)) (tab i (λ i. get_or states i 0)) (get_or states i 0)));
         few = omega (arith, s.few);
       }
-
-  pub summed_all : {i bad used : ℕ} (n : ℕ) → Summed states homes marks want i bad used → i ≤ n → n ≤ i → SlotsFit states homes marks want n (record { good = eqb bad 0; used = used })
-  summed_all {i} {bad} {used} n s a b = let e : i ≡ n = omega arith in let w = rw e at s in record { tells = w.tells; used = w.used_is }

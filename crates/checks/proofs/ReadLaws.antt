@@ -1,6 +1,6 @@
 -- From the arrays that the test is lent to the model and back: ids, queues, whether a CPU is started, the parked id.
+use Rattle.std.specs.Prelude.{Some, None}
 use Rattle.std.proofs.Common.{◌≡◌, ℕ, zero, suc, ◌<◌, ◌≤◌, Bool, true, false, cond, not, eqb, List, length, get_or, take, sym, refl, ap, ◌∙◌, suc-le-suc, zero-le, arith, length-take-le, get_or-take, ext_get_or, eq-eqb, ne_eqb, eqb-true}
-use mathlib.Core.Option.{some, none}
 use native.Mathlib.Decide.{ℕ_discrete}
 use borrow.Author.Tests.{not-false}
 use Rattle.lists.specs.Tab.{tab}
@@ -91,7 +91,7 @@ module _ (t : Tasks) where
 -- THE PARKED ID
 
 module _ (t : Tasks) (id : TaskId) where
-  pub parked_ok : (b : ℕ) → id.epoch < EPOCHS → ParkFits t.states t.epochs t.small.n b id → Holds (ParkedOk (view t)) (cond (is_set b) (some id) none)
+  pub parked_ok : (b : ℕ) → id.epoch < EPOCHS → ParkFits t.states t.epochs t.small.n b id → Holds (ParkedOk (view t)) (cond (is_set b) (Some id) None)
   parked_ok b last f =
       elim (ℕ_discrete b 0) [
         | yes e ↦ rw (set-off b e) tt
@@ -101,7 +101,7 @@ module _ (t : Tasks) (id : TaskId) where
             (record { slot = rw (view_n t) p.slot; other = p.other; state = view-state t id.slot p.slot ∙ p.state; fits = last; epoch = p.epoch ∙ sym (view-epoch t id.slot p.slot) })
       ]
 
-  pub parked-fits : (b : ℕ) → b < FLAGS → Holds (ParkedOk (view t)) (cond (is_set b) (some id) none) → ParkFits t.states t.epochs t.small.n b id
+  pub parked-fits : (b : ℕ) → b < FLAGS → Holds (ParkedOk (view t)) (cond (is_set b) (Some id) None) → ParkFits t.states t.epochs t.small.n b id
   parked-fits b l o =
       record {
         flag = l;

@@ -1,4 +1,4 @@
--- One slot: that its note is the one that its state asks is what document 01 says of its state, its queue and its current.
+-- One slot: that its note is the one that its state asks is what a sound table says of its state, its queue and its current.
 use Rattle.std.proofs.Common.{◌≡◌, ℕ, ◌<◌, ◌≤◌, Bool, true, false, ◌&&◌, eqb, ◌⊎◌, sym, refl, ◌∙◌, ⊎_elim, arith, eq-eqb, ne_eqb}
 use native.Mathlib.Decide.{ℕ_discrete}
 use Rattle.lists.specs.Search.{one_if}

@@ -1,47 +1,23 @@
 -- The table as a whole: what its types tell, and that it is sound exactly when its rings fit and it is fresh or live.
-use Rattle.std.proofs.Common.{◌≡◌, ℕ, ◌*◌, ◌<◌, ◌≤◌, Bool, List, map, length, get_or, take, sym, ap, ◌∙◌, inl, inr, ⊎_elim, arith, length-take-le}
+use Rattle.std.proofs.Common.{◌≡◌, ℕ, ◌<◌, ◌≤◌, Bool, length, get_or, take, sym, ap, ◌∙◌, inl, inr, ⊎_elim, arith, length-take-le}
 use lib.ListN.{length-map}
 use Rattle.lists.specs.Flags.{FLAGS, is_set}
 use Rattle.lists.specs.Tells.{Tells}
 use Rattle.lists.proofs.Basics.{get_or-all}
-use Rattle.ids.specs.Id.{EPOCHS}
-use Rattle.model.specs.Model.{MOST, CPUS, EMPTY, state_of, fresh}
+use Rattle.model.specs.Model.{EMPTY, state_of, fresh}
 use Rattle.model.specs.Sound as plain
 use Rattle.memory.specs.declared.Tasks.{Tasks}
-use Rattle.memory.specs.View.{SPAN, view, Rep, Sound}
+use Rattle.memory.specs.View.{view, Rep, Sound}
 use Rattle.memory.proofs.ViewLaws.{view_n, view_ncpus, view-state}
-use Rattle.checks.specs.Parts.{RingsFit, LiveFits, FreshFits}
+use Rattle.checks.specs.Parts.{RingsFit, LiveFits, FreshFits, Typed}
 use Rattle.checks.proofs.LiveLaws.{fits-live, live-fits}
 use Rattle.checks.proofs.FreshLaws.{fits_fresh, fresh-fits}
-
--- the sizes of the arrays, and that an epoch has 16 bits
-pub record Typed (t : Tasks) : Type 0 where
-  pub states : length t.states ≡ MOST
-  pub epochs : length t.epochs ≡ MOST
-  pub homes : length t.homes ≡ MOST
-  pub marks : length t.marks ≡ MOST
-  pub slots : length t.ring_slots ≡ CPUS * SPAN
-  pub tenures : length t.ring_epochs ≡ CPUS * SPAN
-  pub heads : length t.small.heads ≡ CPUS
-  pub lens : length t.small.lens ≡ CPUS
-  pub currents : length t.small.currents ≡ CPUS
-  pub idles : length t.small.idles ≡ CPUS
-  pub epoch : (i : ℕ) → get_or t.epochs i 0 < EPOCHS
-  pub last : t.small.parked_id.epoch < EPOCHS
-
--- the size of an array of structs, which its type tells of the list of their parts
-pub mapped_length : {A B : Type 0} (f : A → B) (l : List A) (n : ℕ) → length (map f l) ≡ n → length l ≡ n
-mapped_length f l n e = sym (length-map l f) ∙ e
 
 -- two statements that hold together
 pub tells_as : {P Q : Type 0} {r : Bool} → (P → Q) → (Q → P) → Tells r P → Tells r Q
 tells_as to from g = record { true_is = λ e. to (g.true_is e); false_is = λ e q. g.false_is e (from q) }
 
 module _ (t : Tasks) where
-  pub sound-rings : Sound t → RingsFit t.small.n t.small.heads t.small.lens
-  sound-rings s =
-      record { some = s.rep.some; most = s.rep.most; head = λ c h. (s.rep.rings c h).head; len = λ c h. (s.rep.rings c h).len }
-
   module _ (ty : Typed t) (f : RingsFit t.small.n t.small.heads t.small.lens) where
     rep_of : ((i : ℕ) → i < t.small.n → get_or t.marks i 0 < FLAGS) → t.small.parked < FLAGS → Rep t
     rep_of marks parked =

@@ -1,13 +1,10 @@
 -- Laws of walks that note what they pass, in the form that a loop meets: where it starts, a step, a way out, its end.
 use Rattle.std.proofs.Common.{◌≡◌, ℕ, zero, suc, ◌+◌, ◌<◌, ◌≤◌, Bool, true, false, List, refl, ap, ◌∙◌, add-one, arith}
 use native.Mathlib.Decide.{ℕ_discrete}
-use Rattle.lists.proofs.Basics.{not_both, tells_yes, tells_no}
+use Rattle.lists.proofs.Basics.{not_both, tells_no}
 use Rattle.checks.specs.Walk.{notes_at, Passes, Notes}
 
 -- A TEST THAT NOTES
-
-pub notes_yes : {P : Type 0} {v u : List ℕ} → P → u ≡ v → Notes true P v u
-notes_yes p e = record { tells = tells_yes p; leaves = λ _. e }
 
 pub notes_no : {P : Type 0} {v u : List ℕ} → (P → ⊥) → Notes false P v u
 notes_no f = record { tells = tells_no f; leaves = λ e. absurd (not_both e refl) }
@@ -44,9 +41,6 @@ module _ {W : Type 0} (P : ℕ → W → Type 0) (f : ℕ → W → W) where
   pub walk_stop : {i : ℕ} {w v : W} (k : ℕ) → Walked P f i w v → i < k → (P i v → ⊥) → Passes P f k w → ⊥
   walk_stop {i} {w} {v} k g h out p = out (rw g.left (passes_at k i w h p))
 
-  pub walk_end : {i : ℕ} {w v : W} (k : ℕ) → Walked P f i w v → i ≤ k → k ≤ i → Walked P f k w v
-  walk_end {i} {w} {v} k g a b = let e : i ≡ k = omega arith in rw e at g
-
 -- a loop whose body is a test that notes
 module _ (P : ℕ → List ℕ → Type 0) (f : ℕ → List ℕ → List ℕ) where
   pub walk-on : {i : ℕ} {w v u : List ℕ} {r : Bool} → Walked P f i w v → Notes r (P i v) (f i v) u → r ≡ true → Walked P f (i + 1) w u
@@ -54,6 +48,3 @@ module _ (P : ℕ → List ℕ → Type 0) (f : ℕ → List ℕ → List ℕ) w
 
   pub walk-off : {i : ℕ} {w v u x : List ℕ} {r : Bool} (k : ℕ) → Walked P f i w v → i < k → Notes r (P i v) (f i v) u → r ≡ false → Notes false (Passes P f k w) (notes_at f k w) x
   walk-off k g h s n = notes_no (walk_stop P f k g h (s.tells.false_is n))
-
-  pub walk-all : {i : ℕ} {w v : List ℕ} (k : ℕ) → Walked P f i w v → i ≤ k → k ≤ i → Notes true (Passes P f k w) (notes_at f k w) v
-  walk-all k g a b = let e = walk_end P f k g a b in notes_yes e.passed e.left

@@ -1,19 +1,19 @@
 -- What each part of the soundness test tells, said of the arrays that it is lent. A slot's note is the state that the queues
 -- and the currents ask of it: Ready where it is queued, Running where it is a current, and else Empty, which stands for
 -- Blocked too.
-use Rattle.std.specs.Prelude.{◌≡◌, ℕ, ◌+◌, ◌*◌, ◌<◌, ◌≤◌, Bool, true, false, cond, not, List, get_or, replicate, ◌==◌, ◌≢◌, slice_index, slice_index_or, slice_set}
+use Rattle.std.specs.Prelude.{◌≡◌, ℕ, ◌+◌, ◌*◌, ◌<◌, ◌≤◌, Bool, true, false, cond, not, List, get_or, length, replicate, ◌==◌, ◌≢◌, slice_index, slice_index_or, slice_set, Option, is_some, IfSome}
 use Rattle.lists.specs.Flags.{FLAGS}
 use Rattle.lists.specs.Tells.{Tells}
 use Rattle.lists.specs.Tab.{tab}
 use Rattle.lists.specs.Search.{count_of}
 use Rattle.ids.specs.declared.TaskId.{TaskId}
-use Rattle.ids.specs.Id.{same_id, idle}
+use Rattle.ids.specs.Id.{EPOCHS, same_id, idle}
 use Rattle.runqueue.specs.Ring.{placed, id_at}
 use Rattle.model.specs.Model.{MOST, CPUS, STATES, EMPTY, READY, RUNNING, BLOCKED, bump}
 use Rattle.model.specs.Sound.{Active}
 use Rattle.memory.specs.declared.Small.{Small}
+use Rattle.memory.specs.declared.Tasks.{Tasks}
 use Rattle.memory.specs.View.{SPAN}
-use Rattle.checks.specs.declared.Slots.{Slots}
 use Rattle.checks.specs.Walk.{notes_at, Passes}
 
 -- N listed; head and length of each ring
@@ -120,9 +120,10 @@ pub record Misfits (s h m w r : ℕ) : Type 0 where
 abbrev pub occupied_in : List ℕ → ℕ → ℕ
 occupied_in states n = count_of (λ s. not (s == EMPTY)) (tab n (λ i. slice_index states i))
 
-pub record SlotsFit (states homes marks want : List ℕ) (n : ℕ) (r : Slots) : Type 0 where
-  pub tells : Tells r.good ((i : ℕ) → i < n → SlotFits (slice_index states i) (slice_index homes i) (slice_index marks i) (slice_index want i))
-  pub used : r.used ≡ occupied_in states n
+-- r: none where some slot does not fit
+pub record SlotsFit (states homes marks want : List ℕ) (n : ℕ) (r : Option ℕ) : Type 0 where
+  pub tells : Tells (is_some r) ((i : ℕ) → i < n → SlotFits (slice_index states i) (slice_index homes i) (slice_index marks i) (slice_index want i))
+  pub used : IfSome r (λ u. u ≡ occupied_in states n)
 
 -- THE REST
 
@@ -167,3 +168,20 @@ pub record FreshFits (states epochs homes marks : List ℕ) (t : Small) : Type 0
   pub overwrites : t.overwrites ≡ 0
   pub events : t.block_events ≡ 0
   pub peak : t.peak ≡ 0
+
+-- THE TABLE AS A WHOLE
+
+-- the sizes of the arrays, and that an epoch has 16 bits
+pub record Typed (t : Tasks) : Type 0 where
+  pub states : length t.states ≡ MOST
+  pub epochs : length t.epochs ≡ MOST
+  pub homes : length t.homes ≡ MOST
+  pub marks : length t.marks ≡ MOST
+  pub slots : length t.ring_slots ≡ CPUS * SPAN
+  pub tenures : length t.ring_epochs ≡ CPUS * SPAN
+  pub heads : length t.small.heads ≡ CPUS
+  pub lens : length t.small.lens ≡ CPUS
+  pub currents : length t.small.currents ≡ CPUS
+  pub idles : length t.small.idles ≡ CPUS
+  pub epoch : (i : ℕ) → slice_index t.epochs i < EPOCHS
+  pub last : t.small.parked_id.epoch < EPOCHS

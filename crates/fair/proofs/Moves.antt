@@ -1,10 +1,10 @@
 -- What a call does to the queue of a CPU where somebody waits: entries join its tail, or its head is chosen, or one entry
 -- is stolen. Nothing else moves it.
+use Rattle.std.specs.Prelude.{Option, Some, None}
 use mathlib.Core.Path.{◌≡◌, refl, sym, ◌∙◌, ap, subst}
 use mathlib.Core.Bool.{Bool, true, false, ◌&&◌, ◌||◌, not, cond}
 use mathlib.Core.Logic.{⊎_elim}
 use mathlib.Core.List.{List, [], ◌∷◌, ◌++◌, append-nil}
-use mathlib.Core.Option.{Option, some, none}
 use Prim.Native.Nat.{ℕ, ◌<◌}
 use native.Mathlib.Omega.{arith}
 use native.Mathlib.Decide.{ℕ_discrete}
@@ -34,7 +34,7 @@ pub record Joins (q r : List TaskId) (e : Event) (loot : Option TaskId) : Type 0
   pub is : r ≡ q ++ back
   pub turn : e.turn ≡ false
   pub chosen : e.chosen ≡ []
-  pub none_lost : loot ≡ none
+  pub none_lost : loot ≡ None
 
 pub record Chooses (q r : List TaskId) (e : Event) (loot : Option TaskId) : Type 0 where
   pub head : TaskId
@@ -44,7 +44,7 @@ pub record Chooses (q r : List TaskId) (e : Event) (loot : Option TaskId) : Type
   pub is : r ≡ rest ++ back
   pub turn : e.turn ≡ true
   pub chosen : e.chosen ≡ head ∷ []
-  pub none_lost : loot ≡ none
+  pub none_lost : loot ≡ None
 
 pub record Robs (q r : List TaskId) (e : Event) (loot : Option TaskId) : Type 0 where
   pub place : ℕ
@@ -52,7 +52,7 @@ pub record Robs (q r : List TaskId) (e : Event) (loot : Option TaskId) : Type 0 
   pub is : r ≡ robbed place q
   pub turn : e.turn ≡ false
   pub chosen : e.chosen ≡ []
-  pub lost : loot ≡ some (get_or q place idle)
+  pub lost : loot ≡ Some (get_or q place idle)
 
 pub data Move (q r : List TaskId) (e : Event) (loot : Option TaskId) : Type 0 where
   joins : Joins q r e loot → Move q r e loot
@@ -143,7 +143,7 @@ module _ (m : Model) (c : ℕ) where
   keeps_as x y e k = record { back = k.back; is = rw e k.is }
 
   -- a call that is nothing to those who wait there
-  quiet : (x : Model) → Keeps m c x → Move (queue_of m c) (queue_of x c) nothing none
+  quiet : (x : Model) → Keeps m c x → Move (queue_of m c) (queue_of x c) nothing None
   quiet x k = joins (record { back = k.back; is = k.is; turn = refl; chosen = refl; none_lost = refl })
 
 module _ (m : Model) (c : ℕ) (w : Waiting m c) where
@@ -211,7 +211,7 @@ module _ (m : Model) (c : ℕ) (w : Waiting m c) where
       (true_or_false (can_steal m t))
 
   -- a steal, or none, of a call that is no turn on c
-  robbing : (e : Event) (t : ℕ) (x : Model) → e.turn ≡ false → e.chosen ≡ [] → e.thief ≡ cond (can_steal m t) (some t) none → queue_of x c ≡ queue_of (stealing m t) c → Move (queue_of m c) (queue_of x c) e (loot_of m c e.thief)
+  robbing : (e : Event) (t : ℕ) (x : Model) → e.turn ≡ false → e.chosen ≡ [] → e.thief ≡ cond (can_steal m t) (Some t) None → queue_of x c ≡ queue_of (stealing m t) c → Move (queue_of m c) (queue_of x c) e (loot_of m c e.thief)
   robbing e t x turn chosen thief q =
       ⊎_elim
       (λ (can : can_steal m t ≡ true).
@@ -225,7 +225,7 @@ module _ (m : Model) (c : ℕ) (w : Waiting m c) where
 
   moved-steal : (t : ℕ) → Moved m c (steal t) (try_steal_step m t)
   unfolding try_steal_step
-  moved-steal t = rw on (robbing (record { turn = false; chosen = []; thief = cond (can_steal m t) (some t) none }) t (stealing m t) refl refl refl refl)
+  moved-steal t = rw on (robbing (record { turn = false; chosen = []; thief = cond (can_steal m t) (Some t) None }) t (stealing m t) refl refl refl refl)
 
   -- SWITCHES
 
@@ -236,15 +236,15 @@ module _ (m : Model) (c : ℕ) (w : Waiting m c) where
   elsewhere d kind r x ne fine q = go (idles m d && is_nil (queue_of m d)) refl
     where
       go : (b : Bool) → (idles m d && is_nil (queue_of m d)) ≡ b → Move (queue_of m c) (queue_of x c) (event m c (switch d kind) r) (loot_of m c (event m c (switch d kind) r).thief)
-      go true p = robbing (event m c (switch d kind) r) d x (rw (ne_eqb d c ne)) (rw (ne_eqb d c ne)) (rw fine (ap (λ b. cond b (some d) none) (and_last (idles m d) (is_nil (queue_of m d)) (can_steal m d) p))) (q ∙ rw p)
-      go false p = joins (record { back = []; is = q ∙ rw p (sym (append-nil (queue_of m c))); turn = rw (ne_eqb d c ne); chosen = rw (ne_eqb d c ne); none_lost = rw fine (ap (λ b. loot_of m c (cond b (some d) none)) (and_none (idles m d) (is_nil (queue_of m d)) (can_steal m d) p)) })
+      go true p = robbing (event m c (switch d kind) r) d x (rw (ne_eqb d c ne)) (rw (ne_eqb d c ne)) (rw fine (ap (λ b. cond b (Some d) None) (and_last (idles m d) (is_nil (queue_of m d)) (can_steal m d) p))) (q ∙ rw p)
+      go false p = joins (record { back = []; is = q ∙ rw p (sym (append-nil (queue_of m c))); turn = rw (ne_eqb d c ne); chosen = rw (ne_eqb d c ne); none_lost = rw fine (ap (λ b. loot_of m c (cond b (Some d) None)) (and_none (idles m d) (is_nil (queue_of m d)) (can_steal m d) p)) })
 
   -- a switch on c: its queue is not empty, so it steals nothing
   not_nil : is_nil (queue_of m c) ≡ false
   not_nil = rw w.queue
 
-  no_thief : (kind : Kind) (r : Reply) → (event m c (switch c kind) r).thief ≡ none
-  no_thief kind r = rw not_nil (ap (λ b. cond b (some c) none) (and_third (not (is_refused r)) (idles m c) (can_steal m c)))
+  no_thief : (kind : Kind) (r : Reply) → (event m c (switch c kind) r).thief ≡ None
+  no_thief kind r = rw not_nil (ap (λ b. cond b (Some c) None) (and_third (not (is_refused r)) (idles m c) (can_steal m c)))
 
   module _ (start : started_on m c ≡ true) where
     -- one that stays is no turn ..
@@ -283,13 +283,13 @@ module _ (m : Model) (c : ℕ) (w : Waiting m c) where
     turns_here : (kind : Kind) → (idles m c && not (is_yield kind)) ≡ false → Moved m c (switch c kind) (turn m c kind)
     turns_here yield e =
         subst (λ s. Moved m c (switch c yield) s) (sym (turn-yield m w.shape w.live c w.cpu start w.head w.rest w.queue))
-        (chooses-head yield none (handed m c READY w.head behind) (current_of m c ∷ []) e (entered behind))
+        (chooses-head yield None (handed m c READY w.head behind) (current_of m c ∷ []) e (entered behind))
     turns_here preempt e =
         subst (λ s. Moved m c (switch c preempt) s) (sym (turn-preempt m w.shape w.live c w.cpu start w.head w.rest w.queue))
-        (chooses-head preempt none (handed m c READY w.head behind) (current_of m c ∷ []) e (entered behind))
+        (chooses-head preempt None (handed m c READY w.head behind) (current_of m c ∷ []) e (entered behind))
     turns_here block e =
         subst (λ s. Moved m c (switch c block) s) (sym (turn-block m w.shape w.live c w.cpu start w.head w.rest w.queue))
-        (chooses-head block none (slept m c w.head w.rest) [] e (entered w.rest ∙ sym (append-nil w.rest)))
+        (chooses-head block None (slept m c w.head w.rest) [] e (entered w.rest ∙ sym (append-nil w.rest)))
     turns_here exit e =
         subst (λ s. Moved m c (switch c exit) s) (sym (turn-exit m w.shape w.live c w.cpu start w.head w.rest w.queue))
         (chooses-head exit m.parked (exited m c w.head w.rest) [] e (entered w.rest ∙ sym (append-nil w.rest)))
@@ -385,7 +385,7 @@ module _ (m : Model) (c : ℕ) (w : Waiting m c) where
             is = sym (append-nil (queue_of m c));
             turn = rw ne;
             chosen = rw ne;
-            none_lost = rw (no-cpu d e) (ap (λ b. loot_of m c (cond b (some d) none)) (and_fourth (idles m d) (is_nil (queue_of m d))));
+            none_lost = rw (no-cpu d e) (ap (λ b. loot_of m c (cond b (Some d) None)) (and_fourth (idles m d) (is_nil (queue_of m d))));
           })
 
   pub moves : (k : Call) → Moved m c k (step m k)

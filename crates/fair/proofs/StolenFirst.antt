@@ -1,9 +1,9 @@
 -- Demand 3: a stolen task is first in its new queue.
+use Rattle.std.specs.Prelude.{Some, None}
 use mathlib.Core.Path.{◌≡◌, refl, sym, ◌∙◌, ap, subst}
 use mathlib.Core.Bool.{Bool, true, false, ◌&&◌, not, cond}
 use mathlib.Core.Logic.{◌⊎◌, inl, inr}
 use mathlib.Core.List.{[], ◌∷◌}
-use mathlib.Core.Option.{some, none}
 use Prim.Native.Nat.{ℕ, ◌<◌}
 use native.Mathlib.Omega.{arith}
 use lib.ListN.{length, get_or}
@@ -26,16 +26,16 @@ use Rattle.model.proofs.SwitchLaws.{turn-yield}
 use Rattle.fair.specs.Fair.{event, loot_of, is_yes}
 use Rattle.fair.specs.Demand3.{StolenFirst}
 
-none-some : {A : Type 0} {x : A} → none ≡ some x → ⊥
+none-some : {A : Type 0} {x : A} → None ≡ Some x → ⊥
 none-some e = let z : ◌≡◌ {A = ℕ} 0 1 = cc in omega arith
 
 -- what a test gave is what it tested for
-gave : {A : Type 0} (b : Bool) (x y : A) → cond b (some x) none ≡ some y → (b ≡ true) × (x ≡ y)
+gave : {A : Type 0} (b : Bool) (x y : A) → cond b (Some x) None ≡ Some y → (b ≡ true) × (x ≡ y)
 gave true x y e = (refl, cc)
 gave false x y e = absurd (none-some e)
 
 module _ (m : Model) (c : ℕ) (x : TaskId) (s : Sound m) where
-  first-there : (t : ℕ) → can_steal m t ≡ true → loot_of m c (some t) ≡ some x → queue_of (stealing m t) t ≡ x ∷ []
+  first-there : (t : ℕ) → can_steal m t ≡ true → loot_of m c (Some t) ≡ Some x → queue_of (stealing m t) t ≡ x ∷ []
   first-there t can e =
       let (here, is) = gave (eqb (peer_of m t) c) (get_or (queue_of m c) (loot_at m (queue_of m c)) idle) x e in
       let peer = eqb-true (peer_of m t) c here in
@@ -68,18 +68,18 @@ module _ (m : Model) (c : ℕ) (x : TaskId) (s : Sound m) where
 
   -- what an idle CPU's switch does after it has stolen: a yield chooses the loot, any other kind stays
   module _ (d : ℕ) (on : started m ≡ true) (on-d : started_on m d ≡ true) (hd : d < CPUS) (first : queue_of (pulls m d) d ≡ x ∷ []) (idl : idles m d ≡ true) where
-    chosen_next : (kind : Kind) → (queue_of (switch_on m d kind).after d ≡ x ∷ []) ⊎ ((switch_on m d kind).reply ≡ switched (current_of m d) x none)
+    chosen_next : (kind : Kind) → (queue_of (switch_on m d kind).after d ≡ x ∷ []) ⊎ ((switch_on m d kind).reply ≡ switched (current_of m d) x None)
     unfolding switch_on
     chosen_next yield =
         let v = live m s on in
         let (shape, w) = pulls-live m s.shape v d in
         let t = turn-yield (pulls m d) shape w d hd (pulls-on m s.shape v d on-d) x [] first in
-        inr (rw idl (ap (λ (r : Step Model). r.reply) t ∙ ap (λ from. switched from x none) (pulls-current m d d)))
+        inr (rw idl (ap (λ (r : Step Model). r.reply) t ∙ ap (λ from. switched from x None) (pulls-current m d d)))
     chosen_next preempt = inl (rw idl first)
     chosen_next block = inl (rw idl first)
     chosen_next exit = inl (rw idl first)
 
-  by_switch : (d : ℕ) (kind : Kind) → (not (is_refused (switch_step m d kind).reply) && idles m d && is_nil (queue_of m d) && can_steal m d) ≡ true → loot_of m c (some d) ≡ some x → StolenFirst m (switch d kind) d x
+  by_switch : (d : ℕ) (kind : Kind) → (not (is_refused (switch_step m d kind).reply) && idles m d && is_nil (queue_of m d) && can_steal m d) ≡ true → loot_of m c (Some d) ≡ Some x → StolenFirst m (switch d kind) d x
   unfolding step pulls
   by_switch d kind e l =
       let fine = not (is_refused (switch_step m d kind).reply) in
@@ -91,7 +91,7 @@ module _ (m : Model) (c : ℕ) (x : TaskId) (s : Sound m) where
       let pulled : queue_of (pulls m d) d ≡ x ∷ [] = rw (idl, nil) first in
       record { first = first; after = rw is (chosen_next d on on-d (omega (arith, (can-steal m d can).cpu, s.shape.cpus)) pulled idl kind) }
 
-  pub stolen-first : (k : Call) (t : ℕ) → (event m c k (step m k).reply).thief ≡ some t → loot_of m c (some t) ≡ some x → StolenFirst m k t x
+  pub stolen-first : (k : Call) (t : ℕ) → (event m c k (step m k).reply).thief ≡ Some t → loot_of m c (Some t) ≡ Some x → StolenFirst m k t x
   unfolding step
   stolen-first start t e l = absurd (none-some e)
   stolen-first start1 t e l = absurd (none-some e)

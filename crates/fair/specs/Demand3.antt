@@ -1,6 +1,5 @@
 -- Demand 3, as it is true: from any sound, started table, for a task X that waits on CPU c with k entries ahead, over any calls.
-use Rattle.std.specs.Prelude.{◌≡◌, true, List, [], ◌∷◌, ◌⊎◌, ℕ, ◌+◌, ◌≤◌, ◌<◌, min, take}
-use Rattle.std.proofs.Math.Option.{none}
+use Rattle.std.specs.Prelude.{◌≡◌, true, List, [], ◌∷◌, ◌⊎◌, ℕ, ◌+◌, ◌≤◌, ◌<◌, min, take, None}
 use Rattle.ids.specs.declared.TaskId.{TaskId}
 use Rattle.answers.specs.Reply.{switched}
 use Rattle.answers.specs.Run.{left}
@@ -29,4 +28,4 @@ pub record Fair (m : Model) (c : ℕ) (x : TaskId) (ks : List Call) : Type 0 whe
 -- yield, has chosen it there
 pub record StolenFirst (m : Model) (k : Call) (t : ℕ) (x : TaskId) : Type 0 where
   pub first : queue_of (stealing m t) t ≡ x ∷ []
-  pub after : (queue_of (step m k).after t ≡ x ∷ []) ⊎ ((step m k).reply ≡ switched (current_of m t) x none)
+  pub after : (queue_of (step m k).after t ≡ x ∷ []) ⊎ ((step m k).reply ≡ switched (current_of m t) x None)

@@ -1,7 +1,6 @@
 -- Demand 3, in its words: a ready task, the entries ahead of it, turns on its CPU, steals from its queue, who is chosen.
 -- All of it is told from the calls, their answers, and the table at each call.
-use Rattle.std.specs.Prelude.{Bool, false, ◌&&◌, ◌||◌, not, cond, List, [], ◌∷◌, ◌++◌, ℕ, ◌+◌, ◌-◌, ◌*◌, get_or, eqb}
-use Rattle.std.proofs.Math.Option.{Option, some, none}
+use Rattle.std.specs.Prelude.{Bool, false, ◌&&◌, ◌||◌, not, cond, List, [], ◌∷◌, ◌++◌, ℕ, ◌+◌, ◌-◌, ◌*◌, get_or, eqb, Option, Some, None}
 use Rattle.lists.specs.Search.{first_at, any_of, one_if}
 use Rattle.lists.specs.Entries.{is_there, taken}
 use Rattle.ids.specs.declared.TaskId.{TaskId}
@@ -50,7 +49,7 @@ pub record Event : Type 0 where
   pub thief : Option ℕ
 
 abbrev pub nothing : Event
-nothing = record { turn = false; chosen = []; thief = none }
+nothing = record { turn = false; chosen = []; thief = None }
 
 abbrev pub event : Model → ℕ → Call → Reply → Event
 event m c start r = nothing
@@ -60,18 +59,18 @@ event m c (switch d kind) r =
     record {
       turn = eqb d c && not (is_refused r) && (is_yield kind || not (idles m d));
       chosen = cond (eqb d c) (chosen_of r) [];
-      thief = cond (not (is_refused r) && idles m d && is_nil (queue_of m d) && can_steal m d) (some d) none;
+      thief = cond (not (is_refused r) && idles m d && is_nil (queue_of m d) && can_steal m d) (Some d) None;
     }
 event m c (mark id b) r = nothing
-event m c (steal t) r = record { turn = false; chosen = []; thief = cond (is_yes r) (some t) none }
+event m c (steal t) r = record { turn = false; chosen = []; thief = cond (is_yes r) (Some t) None }
 event m c (wake id) r = nothing
 event m c collect r = nothing
 event m c (read q) r = nothing
 
 -- the entry that a thief takes from the queue of CPU c
 abbrev pub loot_of : Model → ℕ → Option ℕ → Option TaskId
-loot_of m c none = none
-loot_of m c (some t) = cond (eqb (peer_of m t) c) (some (get_or (queue_of m c) (loot_at m (queue_of m c)) idle)) none
+loot_of m c None = None
+loot_of m c (Some t) = cond (eqb (peer_of m t) c) (Some (get_or (queue_of m c) (loot_at m (queue_of m c)) idle)) None
 
 -- how the waiting of a task ends
 pub data End : Type 0 where

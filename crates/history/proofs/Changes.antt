@@ -1,9 +1,9 @@
 -- What one call does to occupied slots, epochs and counters, told by the call and its answer.
+use Rattle.std.specs.Prelude.{Option, Some, None}
 use mathlib.Core.Path.{◌≡◌, refl, sym, ◌∙◌, ap}
 use mathlib.Core.Bool.{Bool, true, false, ◌&&◌, not, cond}
 use mathlib.Core.Logic.{◌⊎◌, inl, inr, ⊎_elim}
 use mathlib.Core.List.{List, [], ◌∷◌, ◌++◌}
-use mathlib.Core.Option.{Option, some, none}
 use Prim.Native.Nat.{ℕ, ◌+◌, ◌<◌, max}
 use native.Mathlib.Omega.{arith}
 use native.Mathlib.Decide.{ℕ_discrete}
@@ -87,10 +87,10 @@ module _ (m : Model) where
   stealing_quiet t = quiet_model (can_steal m t) _ _ (record { slots = refl; epochs = refl; events = refl; overwrites = refl; peak = refl }) quiet
 
   -- of a call that is no switch, or whose answer is none, only an arrival can be told
-  silent : (k : Call) (r : Reply) → kind_in k ≡ none → arrival m k r ≡ false → Silent k r
+  silent : (k : Call) (r : Reply) → kind_in k ≡ None → arrival m k r ≡ false → Silent k r
   silent k r e a = record { no_arrival = a; no_departure = rw e; no_exit = λ i. rw e; no_block = rw e; no_displacing = rw e }
 
-  silent_switch : (c : ℕ) (kind : Kind) (r : Reply) → switched_by r ≡ none → Silent (switch c kind) r
+  silent_switch : (c : ℕ) (kind : Kind) (r : Reply) → switched_by r ≡ None → Silent (switch c kind) r
   silent_switch c yield r e = record { no_arrival = refl; no_departure = refl; no_exit = λ i. refl; no_block = refl; no_displacing = refl }
   silent_switch c preempt r e = record { no_arrival = refl; no_departure = refl; no_exit = λ i. refl; no_block = refl; no_displacing = refl }
   silent_switch c block r e = record { no_arrival = refl; no_departure = refl; no_exit = λ i. refl; no_block = rw e; no_displacing = refl }
@@ -106,7 +106,7 @@ module _ (m : Model) (shape : Shape m) (s : ℕ) (hs : s < m.n) (empty : state_o
       let is : one_if (not (eqb v EMPTY)) ≡ 1 = rw (ne_eqb v EMPTY ne) in
       omega (arith, occupied-set m shape s v hs, was, is)
 
-  claims : (k : Call) (r : Reply) (c : ℕ) → arrival m k r ≡ true → kind_in k ≡ none → Change m k r (claimed m c s)
+  claims : (k : Call) (r : Reply) (c : ℕ) → arrival m k r ≡ true → kind_in k ≡ None → Change m k r (claimed m c s)
   unfolding claimed
   claims k r c a e =
       record {
@@ -117,7 +117,7 @@ module _ (m : Model) (shape : Shape m) (s : ℕ) (hs : s < m.n) (empty : state_o
         peak = inr refl;
       }
 
-  admits : (k : Call) (r : Reply) (c : ℕ) → arrival m k r ≡ true → kind_in k ≡ none → Change m k r (admitted m c s)
+  admits : (k : Call) (r : Reply) (c : ℕ) → arrival m k r ≡ true → kind_in k ≡ None → Change m k r (admitted m c s)
   unfolding admitted
   admits k r c a e =
       record {
@@ -182,19 +182,19 @@ module _ (m : Model) (shape : Shape m) (v : Live m) (c : ℕ) (hc : c < CPUS) (o
       epoch i (no e) = rw (ne_eqb s i e) (get_or-set_other m.epochs s i (bump (epoch_of m s)) 0 (λ z. e (sym z)))
 
       counted : (p : Option TaskId) → displaced p m.overwrites ≡ cond (is_there p) (capped m.overwrites) m.overwrites
-      counted none = refl
-      counted (some p) = refl
+      counted None = refl
+      counted (Some p) = refl
 
   turned : (kind : Kind) → Change m (switch c kind) (turn m c kind).reply (turn m c kind).after
   turned yield = let e = turn-yield m shape v c hc on x l q in rw e (silently m (switch c yield) _ _ (silent_yield (current_of m c)) (handed_quiet (l ++ (current_of m c ∷ []))))
     where
-      silent_yield : (from : TaskId) → Silent m (switch c yield) (switched from x none)
+      silent_yield : (from : TaskId) → Silent m (switch c yield) (switched from x None)
       silent_yield from = record { no_arrival = refl; no_departure = refl; no_exit = λ i. refl; no_block = refl; no_displacing = refl }
   turned preempt = let e = turn-preempt m shape v c hc on x l q in rw e (silently m (switch c preempt) _ _ (silent_preempt (current_of m c)) (handed_quiet (l ++ (current_of m c ∷ []))))
     where
-      silent_preempt : (from : TaskId) → Silent m (switch c preempt) (switched from x none)
+      silent_preempt : (from : TaskId) → Silent m (switch c preempt) (switched from x None)
       silent_preempt from = record { no_arrival = refl; no_departure = refl; no_exit = λ i. refl; no_block = refl; no_displacing = refl }
-  turned block = let e = turn-block m shape v c hc on x l q in rw e (slept_change none)
+  turned block = let e = turn-block m shape v c hc on x l q in rw e (slept_change None)
   turned exit = let e = turn-exit m shape v c hc on x l q in rw e exited_change
 
 -- EVERY CALL
@@ -216,10 +216,10 @@ module _ (m : Model) (sound : Sound m) where
   abbrev Does : Call → Step Model → Type 0
   Does k s = Change m k s.reply s.after
 
-  still : (k : Call) (r : Reply) → kind_in k ≡ none → arrival m k r ≡ false → Change m k r m
+  still : (k : Call) (r : Reply) → kind_in k ≡ None → arrival m k r ≡ false → Change m k r m
   still k r e a = silently m k r m (silent m k r e a) (quiet m)
 
-  started_or_3 : (k : Call) (s : Step Model) → kind_in k ≡ none → arrival m k (refused 3) ≡ false → (started m ≡ true → Does k s) → Does k (when_started m s)
+  started_or_3 : (k : Call) (s : Step Model) → kind_in k ≡ None → arrival m k (refused 3) ≡ false → (started m ≡ true → Does k s) → Does k (when_started m s)
   started_or_3 k s e a f = by_test (λ (t : Step Model). Does k t) (started m) s (refusing 3 m) f (λ _. still k (refused 3) e a)
 
   of_start : Does start (start_step m)
@@ -235,24 +235,24 @@ module _ (m : Model) (sound : Sound m) where
   unfolding start_cpu_step
   of_start1 =
       started_or_3 start1 _ refl refl
-      (λ _. by_test (λ (t : Step Model). Does start1 t) (started_on m 1) (record { reply = named (some (idle_of m 1)); after = m }) _
-      (λ on. still start1 (named (some (idle_of m 1))) refl (rw on))
-      (λ off. by_test (λ (t : Step Model). Does start1 t) (ltb (free_slot m) m.n) (record { reply = named (some (tenant m (free_slot m))); after = claimed m 1 (free_slot m) }) (record { reply = named none; after = m })
-      (λ free. let below = ltb-true (free_slot m) m.n free in claims m sound.shape (free_slot m) below (free-vacant m below).empty start1 (named (some (tenant m (free_slot m)))) 1 (rw off) refl)
-      (λ _. still start1 (named none) refl refl)))
+      (λ _. by_test (λ (t : Step Model). Does start1 t) (started_on m 1) (record { reply = named (Some (idle_of m 1)); after = m }) _
+      (λ on. still start1 (named (Some (idle_of m 1))) refl (rw on))
+      (λ off. by_test (λ (t : Step Model). Does start1 t) (ltb (free_slot m) m.n) (record { reply = named (Some (tenant m (free_slot m))); after = claimed m 1 (free_slot m) }) (record { reply = named None; after = m })
+      (λ free. let below = ltb-true (free_slot m) m.n free in claims m sound.shape (free_slot m) below (free-vacant m below).empty start1 (named (Some (tenant m (free_slot m)))) 1 (rw off) refl)
+      (λ _. still start1 (named None) refl refl)))
 
   of_admit : (c : ℕ) → Does (admit c) (admit_step m c)
   unfolding admit_step
   of_admit c =
       started_or_3 (admit c) _ refl refl
-      (λ _. by_test (λ (t : Step Model). Does (admit c) t) (ltb c (length m.cpus) && ltb (free_slot m) m.n) (record { reply = named (some (tenant m (free_slot m))); after = admitted m c (free_slot m) }) (record { reply = named none; after = m })
+      (λ _. by_test (λ (t : Step Model). Does (admit c) t) (ltb c (length m.cpus) && ltb (free_slot m) m.n) (record { reply = named (Some (tenant m (free_slot m))); after = admitted m c (free_slot m) }) (record { reply = named None; after = m })
       (λ e.
       let below = ltb-true (free_slot m) m.n (both_true (ltb c (length m.cpus)) (ltb (free_slot m) m.n) e).1 in
-      admits m sound.shape (free_slot m) below (free-vacant m below).empty (admit c) (named (some (tenant m (free_slot m)))) c refl refl)
-      (λ _. still (admit c) (named none) refl refl))
+      admits m sound.shape (free_slot m) below (free-vacant m below).empty (admit c) (named (Some (tenant m (free_slot m)))) c refl refl)
+      (λ _. still (admit c) (named None) refl refl))
 
   -- a call that is never told of: what it leaves is enough
-  unheard : (k : Call) (s : Step Model) → kind_in k ≡ none → arrival m k s.reply ≡ false → Quiet m s.after → Does k s
+  unheard : (k : Call) (s : Step Model) → kind_in k ≡ None → arrival m k s.reply ≡ false → Quiet m s.after → Does k s
   unheard k s e a q = silently m k s.reply s.after (silent m k s.reply e a) q
 
   quiet_started : (s : Step Model) → (started m ≡ true → Quiet m s.after) → Quiet m (when_started m s).after
@@ -282,7 +282,7 @@ module _ (m : Model) (sound : Sound m) where
   steal_quiet t = quiet_started _ (λ _. stealing_quiet m t)
 
   -- a switch that leaves the table, or only steals
-  stays_so : (c : ℕ) (kind : Kind) (r : Reply) (w : Model) → switched_by r ≡ none → Quiet m w → Change m (switch c kind) r w
+  stays_so : (c : ℕ) (kind : Kind) (r : Reply) (w : Model) → switched_by r ≡ None → Quiet m w → Change m (switch c kind) r w
   stays_so c kind r w e q = silently m (switch c kind) r w (silent_switch m c kind r e) q
 
   nobody : (c : ℕ) → started m ≡ true → c < CPUS → Live (pulls m c) → started_on (pulls m c) c ≡ true → idles m c ≡ false → queue_of (pulls m c) c ≡ [] → ⊥

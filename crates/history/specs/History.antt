@@ -1,7 +1,6 @@
 -- What happened to a task table, told from the calls, their answers, and the table at each call: for the first start of a CPU, and
 -- for the most slots that were occupied at once.
-use Rattle.std.specs.Prelude.{Bool, true, false, ◌&&◌, not, List, [], ◌∷◌, ℕ, max, eqb}
-use Rattle.std.proofs.Math.Option.{Option, some, none}
+use Rattle.std.specs.Prelude.{Bool, true, false, ◌&&◌, not, List, [], ◌∷◌, ℕ, max, eqb, Option, Some, None}
 use Rattle.lists.specs.Entries.{is_there, taken}
 use Rattle.ids.specs.declared.TaskId.{TaskId}
 use Rattle.answers.specs.Reply.{Reply, refused, done, told, number, named, value, stays, switched, is_refused}
@@ -17,8 +16,8 @@ gave_id (refused n) = false
 gave_id done = false
 gave_id (told b) = false
 gave_id (number n) = false
-gave_id (named none) = false
-gave_id (named (some id)) = true
+gave_id (named None) = false
+gave_id (named (Some id)) = true
 gave_id (value v) = false
 gave_id stays = false
 gave_id (switched from to release) = false
@@ -29,25 +28,25 @@ pub record Switched : Type 0 where
   pub release : Option TaskId
 
 abbrev pub switched_by : Reply → Option Switched
-switched_by (refused n) = none
-switched_by done = none
-switched_by (told b) = none
-switched_by (number n) = none
-switched_by (named i) = none
-switched_by (value v) = none
-switched_by stays = none
-switched_by (switched from to release) = some (record { from = from; release = release })
+switched_by (refused n) = None
+switched_by done = None
+switched_by (told b) = None
+switched_by (number n) = None
+switched_by (named i) = None
+switched_by (value v) = None
+switched_by stays = None
+switched_by (switched from to release) = Some (record { from = from; release = release })
 
 abbrev pub kind_in : Call → Option Kind
-kind_in start = none
-kind_in start1 = none
-kind_in (admit c) = none
-kind_in (switch c kind) = some kind
-kind_in (mark id b) = none
-kind_in (steal t) = none
-kind_in (wake id) = none
-kind_in collect = none
-kind_in (read r) = none
+kind_in start = None
+kind_in start1 = None
+kind_in (admit c) = None
+kind_in (switch c kind) = Some kind
+kind_in (mark id b) = None
+kind_in (steal t) = None
+kind_in (wake id) = None
+kind_in collect = None
+kind_in (read r) = None
 
 abbrev pub is_block : Kind → Bool
 is_block yield = false

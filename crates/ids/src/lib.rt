@@ -7,7 +7,7 @@ ghost use Rattle.ids.specs.Id.{packed, unpacked, same_id};
 
 // The structs of the product are laid out as C lays them out, so that firmware can pass them.
 #[repr(C)]
-#[derive(Clone, Copy)]
+#[derive(Clone, Copy, Debug, PartialEq, Eq, Hash)]
 pub struct TaskId {
     pub slot: u16,
     pub epoch: u16,
@@ -15,7 +15,7 @@ pub struct TaskId {
 
 // A packed task id, as it travels through the wake queue.
 #[repr(C)]
-#[derive(Clone, Copy)]
+#[derive(Clone, Copy, Debug, PartialEq, Eq, Hash)]
 pub struct Token(pub u32);
 
 impl TaskId {
@@ -25,10 +25,7 @@ impl TaskId {
     pub fn new(slot: u16, epoch: u16) -> Self
         ensures { result ≡ record { slot = slot; epoch = epoch } }
     {
-        Self {
-            slot: slot,
-            epoch: epoch,
-        }
+        Self { slot, epoch }
     }
 
     pub fn slot(self) -> usize
@@ -63,9 +60,6 @@ impl TaskId {
     pub fn same(self, other: TaskId) -> bool
         ensures { result ≡ same_id self other }
     {
-        if self.slot == other.slot {
-            return self.epoch == other.epoch;
-        }
-        false
+        self == other
     }
 }

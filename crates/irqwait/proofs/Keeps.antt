@@ -1,8 +1,8 @@
 -- The rules of a sound wait table outlast every call: each step takes a sound table to a sound one.
+use Rattle.std.specs.Prelude.{Option, Some, None}
 use mathlib.Core.Path.{◌≡◌, refl, sym, ◌∙◌}
 use mathlib.Core.Logic.{◌⊎◌, ⊎_elim}
 use mathlib.Core.List.{List, [], ◌∷◌}
-use mathlib.Core.Option.{Option, some, none}
 use Prim.Native.Nat.{ℕ, ◌<◌, ◌≤◌}
 use native.Mathlib.Decide.{ℕ_discrete}
 use borrow.Author.Tests.{ne_eqb}
@@ -37,11 +37,11 @@ eqb_turn a b = go (ℕ_discrete a b)
     go (no e) = ne_eqb a b e ∙ sym (ne_eqb b a (λ f. e (sym f)))
 
 module _ (ws : List (Option Wait)) (s : SoundWaiters ws) where
-  put-waiter : (c : ℕ) (id : TaskId) (i : ℕ) → id.slot < MARKS → walk c id ws ≡ none → SoundWaiters (set ws i (some (record { cookie = c; id = id })))
+  put-waiter : (c : ℕ) (id : TaskId) (i : ℕ) → id.slot < MARKS → walk c id ws ≡ None → SoundWaiters (set ws i (Some (record { cookie = c; id = id })))
   put-waiter c id i low clear =
       let new : Wait = record { cookie = c; id = id } in
       record {
-        places = length-set ws i (some new) ∙ s.places;
+        places = length-set ws i (Some new) ∙ s.places;
         cookies =
             distinct_add same_cookie (λ v w. eqb_turn w.cookie v.cookie) ws i new s.cookies (λ k l. (walk_clear c id ws clear k l).0);
         ids =
@@ -50,7 +50,7 @@ module _ (ws : List (Option Wait)) (s : SoundWaiters ws) where
         slots = holds-put low_slot ws i new low s.slots;
       }
 
-  thin_waiters : (vs : List (Option Wait)) → length vs ≡ length ws → ((i : ℕ) → (get_or vs i none ≡ none) ⊎ (get_or vs i none ≡ get_or ws i none)) → SoundWaiters vs
+  thin_waiters : (vs : List (Option Wait)) → length vs ≡ length ws → ((i : ℕ) → (get_or vs i None ≡ None) ⊎ (get_or vs i None ≡ get_or ws i None)) → SoundWaiters vs
   thin_waiters vs len each =
       record {
         places = len ∙ s.places;
@@ -60,13 +60,13 @@ module _ (ws : List (Option Wait)) (s : SoundWaiters ws) where
       }
 
 module _ (ms : List (Option TaskId)) (s : SoundMarks ms) where
-  put-mark : (id : TaskId) → SoundMarks (set ms id.slot (some id))
+  put-mark : (id : TaskId) → SoundMarks (set ms id.slot (Some id))
   put-mark id =
-      record { places = length-set ms id.slot (some id) ∙ s.places; own = holds-put own_slot ms id.slot id refl s.own }
+      record { places = length-set ms id.slot (Some id) ∙ s.places; own = holds-put own_slot ms id.slot id refl s.own }
 
-  clear_mark : (i : ℕ) → SoundMarks (set ms i none)
+  clear_mark : (i : ℕ) → SoundMarks (set ms i None)
   clear_mark i =
-      record { places = length-set ms i none ∙ s.places; own = holds_thin own_slot ms (set ms i none) (thin_set ms i) s.own }
+      record { places = length-set ms i None ∙ s.places; own = holds_thin own_slot ms (set ms i None) (thin_set ms i) s.own }
 
 -- THE STEPS
 
@@ -88,8 +88,8 @@ module _ (w : Waits) (s : SoundWaits w) where
       ⊎_elim (λ (low : id.slot < MARKS). walked low (walk c id w.waiters) refl) (λ (far : MARKS ≤ id.slot). rw (arm_far w c id far) s) (lt_or_ge id.slot MARKS)
     where
       walked : id.slot < MARKS → (o : Option ℕ) → walk c id w.waiters ≡ o → SoundWaits (arm_step w c id).after
-      walked low (some n) e = rw (arm-busy w c id low n e) s
-      walked low none e =
+      walked low (Some n) e = rw (arm-busy w c id low n e) s
+      walked low None e =
           let i : ℕ = lowest_free w.waiters in
           ⊎_elim
           (λ (room : i < length w.waiters).
@@ -110,23 +110,23 @@ module _ (w : Waits) (s : SoundWaits w) where
 
   signal_at_keeps : (i : ℕ) (e : Option Wait) → SoundWaits (signal_at w i e).after
   unfolding signal_at
-  signal_at_keeps i none = s
-  signal_at_keeps i (some e) =
+  signal_at_keeps i None = s
+  signal_at_keeps i (Some e) =
       record {
-        waiters = thin_waiters w.waiters s.waiters (set w.waiters i none) (length-set w.waiters i none) (thin_set w.waiters i);
+        waiters = thin_waiters w.waiters s.waiters (set w.waiters i None) (length-set w.waiters i None) (thin_set w.waiters i);
         marks = put-mark w.pending s.marks e.id;
       }
 
   pub signal_keeps : (c : ℕ) → SoundWaits (signal_step w c).after
   signal_keeps c =
       let i : ℕ = first_at (taken (has_cookie c)) w.waiters in
-      rw (signal-at w c i refl (get_or w.waiters i none) refl) (signal_at_keeps i (get_or w.waiters i none))
+      rw (signal-at w c i refl (get_or w.waiters i None) refl) (signal_at_keeps i (get_or w.waiters i None))
 
   pub take_keeps : (id : TaskId) → SoundWaits (take_step w id).after
   take_keeps id =
       ⊎_elim (λ h. rw (take-marked w id h) (record { waiters = s.waiters; marks = clear_mark w.pending s.marks id.slot }))
       (λ h. rw (take_unmarked w id h) s)
-      (true_or_false (taken (is_mark id) (get_or w.pending id.slot none)))
+      (true_or_false (taken (is_mark id) (get_or w.pending id.slot None)))
 
   pub step_keeps : (call : Call) → SoundWaits (step w call).after
   unfolding step

@@ -1,11 +1,13 @@
 -- What each call on the wait table has to show where it returns, over plain values.
+use Rattle.std.specs.Prelude.{Some, None, Result, Ok, Err}
 use mathlib.Core.Path.{◌≡◌, refl, sym, ◌∙◌, ap}
 use mathlib.Core.Bool.{Bool, true, false}
 use mathlib.Core.List.{List}
-use mathlib.Core.Option.{some, none}
 use Prim.Native.Nat.{ℕ, ◌+◌, ◌<◌, ◌≤◌}
 use native.Mathlib.Omega.{arith}
 use lib.ListN.{length, get_or, set, replicate, get_or-eq_default}
+use Rattle.std.proofs.lemmas.List.{set-get_or}
+use Rattle.std.specs.List.{position}
 use Rattle.lists.specs.Tab.{tab}
 use Rattle.lists.specs.Tells.{Tells}
 use Rattle.lists.specs.Flags.{FLAGS}
@@ -17,8 +19,6 @@ use Rattle.lists.proofs.EntriesLaws.{Freeing, freeing_start, freeing_read, freei
 use Rattle.lists.proofs.EachLaws.{each_set, each_all}
 use Rattle.ids.specs.declared.TaskId.{TaskId}
 use Rattle.answers.specs.declared.Refusal.{Refusal}
-use Rattle.answers.specs.declared.Ack as ack
-use Rattle.answers.specs.declared.Ack.TheVariants as ack-of
 use Rattle.answers.specs.Reply.{Reply, Refused, refused, done, told, named}
 use Rattle.answers.specs.Answers.{refusal_no}
 use Rattle.answers.specs.Contract.{Step, Makes, Does, Answers}
@@ -31,7 +31,7 @@ use Rattle.irqwait.specs.Steps.{fresh, new_step, refusal_of, walk, arm_step, dis
 use Rattle.irqwait.proofs.Places.{holds_of}
 use Rattle.irqwait.proofs.Cases.{walk_says, arm_far, arm-busy, arm_full, arm_done, signal-nothing, signal_found, take-marked, take_unmarked}
 use Rattle.irqwait.proofs.Keeps.{low_slot, fresh-sound, arm_keeps, disarm_keeps, signal_keeps, take_keeps}
-use Rattle.irqwait.proofs.Laws.{waiting, no_waiter, waits_test, waits-taken, marks-at, marks-sound, marks-own, marks-put, marks-cleared}
+use Rattle.irqwait.proofs.Laws.{waiting, no_waiter, has_in, is_free, cookie_none, cookie_some, free_none, free_some, waits-length, waits_test, waits-taken, marks-at, marks-sound, marks-own, marks-put, marks-cleared}
 
 -- THE TABLE, MADE AND TESTED
 
@@ -98,27 +98,29 @@ module _ (t : WaitTable) (s : Sound t) where
     pub arms_far : MARKS ≤ id.slot → Does waits t t (refused 8) (arm_step (view t) c id)
     arms_far h = refuses (arm_step (view t) c id) 8 (arm_far (view t) c id h) (λ z. omega arith)
 
-    module _ (low : id.slot < MARKS) (verdict : ack.Ack) (says : refusal_of verdict ≡ walk c id (waits_of t.waiters)) where
-      pub arms_busy : (r : Refusal) → verdict ≡ ack-of.Refused r → Does waits t t (refused (refusal_no r)) (arm_step (view t) c id)
+    module _ (low : id.slot < MARKS) (verdict : Result (Unit {0}) Refusal) (says : refusal_of verdict ≡ walk c id (waits_of t.waiters)) where
+      pub arms_busy : (r : Refusal) → verdict ≡ Err r → Does waits t t (refused (refusal_no r)) (arm_step (view t) c id)
       unfolding view
       arms_busy r e =
-          let found : walk c id (waits_of t.waiters) ≡ some (refusal_no r) = sym says ∙ ap refusal_of e in
+          let found : walk c id (waits_of t.waiters) ≡ Some (refusal_no r) = sym says ∙ ap refusal_of e in
           let n : 9 ≤ refusal_no r = walk_says c id (waits_of t.waiters) (refusal_no r) found in
           refuses (arm_step (view t) c id) (refusal_no r) (arm-busy (view t) c id low (refusal_no r) found) (λ z. omega arith)
 
-      module _ (clear : verdict ≡ ack-of.Done) (i : ℕ) (at : i ≡ lowest_free (waits_of t.waiters)) where
-        pub arms_full : WAITERS ≤ i → Does waits t t (refused 11) (arm_step (view t) c id)
+      module _ (clear : verdict ≡ Ok tt) where
+        pub arms_full : None ≡ position is_free t.waiters → Does waits t t (refused 11) (arm_step (view t) c id)
         unfolding view
-        arms_full h =
+        arms_full e =
             refuses (arm_step (view t) c id) 11
-            (arm_full (view t) c id low (sym says ∙ ap refusal_of clear) i at (omega (arith, s.plain.waiters.places))) (λ z. omega arith)
+            (arm_full (view t) c id low (sym says ∙ ap refusal_of clear) (lowest_free (waits_of t.waiters)) refl
+            (omega (arith, waits-length t.waiters, free_none t.waiters (sym e)))) (λ z. omega arith)
 
-        pub arms : (e : Waiter) → e ≡ record { live = 1; cookie = record { 0 = c }; task = id } → i < WAITERS
+        pub arms : (i : ℕ) → Some i ≡ position is_free t.waiters → (e : Waiter) → e ≡ record { live = 1; cookie = record { 0 = c }; task = id }
             → Does waits t (with_waiters t (set t.waiters i e)) done (arm_step (view t) c id)
         unfolding view
-        arms e new h =
+        arms i at e new =
+            let there = free_some t.waiters i (sym at) in
             changes (arm_step (view t) c id) (with_waiters t (set t.waiters i e)) done
-            (arm_done (view t) c id low (sym says ∙ ap refusal_of clear) i at (omega (arith, s.plain.waiters.places)) ∙ rw (map-set wait_of t.waiters i e, new))
+            (arm_done (view t) c id low (sym says ∙ ap refusal_of clear) i there.0 (omega (arith, waits-length t.waiters, there.1)) ∙ rw (map-set wait_of t.waiters i e, new))
             (arm_keeps (view t) s.plain c id)
             (each_set _ t.waiters i e (rw new (omega arith)) s.live)
             s.set
@@ -126,34 +128,41 @@ module _ (t : WaitTable) (s : Sound t) where
 
   -- SIGNAL
 
-  module _ (c i : ℕ) (at : i ≡ first_at (taken (has_cookie c)) (waits_of t.waiters)) where
-    pub signals_nothing : WAITERS ≤ i → Does waits t t (named none) (signal_step (view t) c)
+  module _ (c : ℕ) where
+    pub signals_nothing : None ≡ position (has_in c) t.waiters → Does waits t t (named None) (signal_step (view t) c)
     unfolding view
-    signals_nothing h =
-        leaves (signal_step (view t) c) (named none) (signal-nothing (view t) c i at (omega (arith, s.plain.waiters.places))) (signal_keeps (view t) s.plain c) (λ z. z)
+    signals_nothing e =
+        leaves (signal_step (view t) c) (named None)
+        (signal-nothing (view t) c (first_at (taken (has_cookie c)) (waits_of t.waiters)) refl
+        (omega (arith, waits-length t.waiters, cookie_none t.waiters c (sym e))))
+        (signal_keeps (view t) s.plain c)
+        (λ z. z)
 
-    module _ (more : i < WAITERS) where
+    module _ (i : ℕ) (at : Some i ≡ position (has_in c) t.waiters) where
       -- what is found is live
-      found : get_or (waits_of t.waiters) i none ≡ some (waiting (get_or t.waiters i no_waiter))
+      found : get_or (waits_of t.waiters) i None ≡ Some (waiting (get_or t.waiters i no_waiter))
       unfolding view
       found =
-          let within : first_at (taken (has_cookie c)) (waits_of t.waiters) < length (waits_of t.waiters) = omega (arith, s.plain.waiters.places) in
-          waits-taken t.waiters (has_cookie c) i (rw at (first_is (taken (has_cookie c)) (waits_of t.waiters) none within))
+          let there = cookie_some t.waiters c i (sym at) in
+          let within : first_at (taken (has_cookie c)) (waits_of t.waiters) < length (waits_of t.waiters) = omega (arith, there.0, there.1, waits-length t.waiters) in
+          waits-taken t.waiters (has_cookie c) i (rw there.0 (first_is (taken (has_cookie c)) (waits_of t.waiters) None within))
 
-      pub found_slot : (get_or t.waiters i no_waiter).task.slot < MARKS
+      -- and its slot has a mark
+      pub found_low : (i < length t.waiters) × ((get_or t.waiters i no_waiter).task.slot < MARKS)
       unfolding view
-      found_slot = holds_of (low_slot i) (get_or (waits_of t.waiters) i none) found (s.plain.waiters.slots i)
+      found_low =
+          ((cookie_some t.waiters c i (sym at)).1, holds_of (low_slot i) (get_or (waits_of t.waiters) i None) found (s.plain.waiters.slots i))
 
       pub signals : (e : Waiter) (k f : ℕ) (id : TaskId) → id ≡ (get_or t.waiters i no_waiter).task → e ≡ no_waiter → f ≡ 1 → k ≡ id.slot
           → k < length t.pending → k < length t.pending_slots → k < length t.pending_epochs
-          → Does waits t (whole (set t.pending k f) (set t.pending_slots k id.slot) (set t.pending_epochs k id.epoch) (set t.waiters i e)) (named (some id)) (signal_step (view t) c)
+          → Does waits t (whole (set t.pending k f) (set t.pending_slots k id.slot) (set t.pending_epochs k id.epoch) (set t.waiters i e)) (named (Some id)) (signal_step (view t) c)
       unfolding view
       signals e k f id is gone flag own p q r =
-          let low : k < MARKS = rw (own, is) found_slot in
+          let low : k < MARKS = rw (own, is) found_low.1 in
           changes (signal_step (view t) c)
           (whole (set t.pending k f) (set t.pending_slots k id.slot) (set t.pending_epochs k id.epoch) (set t.waiters i e))
-          (named (some id))
-          (signal_found (view t) c i at (waiting (get_or t.waiters i no_waiter)) found
+          (named (Some id))
+          (signal_found (view t) c i (cookie_some t.waiters c i (sym at)).0 (waiting (get_or t.waiters i no_waiter)) found
           ∙ rw (map-set wait_of t.waiters i e, gone, marks-put t.pending t.pending_slots t.pending_epochs k f id.slot id.epoch low p q r flag, own, is))
           (signal_keeps (view t) s.plain c)
           (each_set _ t.waiters i e (rw gone (omega arith)) s.live)
@@ -165,7 +174,7 @@ module _ (t : WaitTable) (s : Sound t) where
   module _ (id : TaskId) where
     -- whether the task has a mark, on paper
     marked : Bool
-    marked = taken (is_mark id) (get_or (view t).pending id.slot none)
+    marked = taken (is_mark id) (get_or (view t).pending id.slot None)
 
     shows : (b : Bool) → marked ≡ b → Answers waits t (told b) (pending_reply (view t) id)
     unfolding marked
@@ -178,7 +187,7 @@ module _ (t : WaitTable) (s : Sound t) where
     -- a slot past the marks has none
     far_unmarked : MARKS ≤ id.slot → marked ≡ false
     unfolding marked
-    far_unmarked h = rw (get_or-eq_default (view t).pending none {n = id.slot} (omega (arith, s.plain.marks.places)))
+    far_unmarked h = rw (get_or-eq_default (view t).pending None {n = id.slot} (omega (arith, s.plain.marks.places)))
 
     pub shows_far : MARKS ≤ id.slot → Answers waits t (told false) (pending_reply (view t) id)
     shows_far h = shows false (far_unmarked h)
@@ -235,13 +244,17 @@ module _ (t : WaitTable) (id : TaskId) (s : Sound t) where
       unfolding view
       within = omega (arith, s.plain.waiters.places)
 
-      at_place : taken (is_for id) (get_or (waits_of t.waiters) i none) ≡ b
+      at_place : taken (is_for id) (get_or (waits_of t.waiters) i None) ≡ b
       at_place =
           sym (says ∙ waits_test vs (is_for id) i ∙ ap (taken (is_for id)) (freeing_read (is_for id) (waits_of t.waiters) i (waits_of vs) d.plain within))
 
       pub disarming_pass : b ≡ false → Disarming t.waiters id (i + 1) vs
       disarming_pass e =
           record { plain = freeing_pass (is_for id) (waits_of t.waiters) i (waits_of vs) d.plain within (at_place ∙ e); live = d.live }
+
+      -- an entry of another is stored as it was
+      pub disarming_same : b ≡ false → (f : Waiter) → f ≡ get_or vs i no_waiter → Disarming t.waiters id (i + 1) (set vs i f)
+      disarming_same e f is = rw (is, set-get_or vs i no_waiter) (disarming_pass e)
 
       pub disarming_hit : b ≡ true → (f : Waiter) → f ≡ no_waiter → Disarming t.waiters id (i + 1) (set vs i f)
       disarming_hit e f gone =

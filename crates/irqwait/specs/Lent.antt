@@ -1,4 +1,4 @@
--- A wait table whose marks are lent, beside its waiters: what a contract over references says of it.
+-- A wait table that is lent in its parts, the waiters and the three arrays of the marks: what a contract over references says of it.
 use Rattle.std.specs.Prelude.{List, ℕ}
 use Rattle.std.specs.Borrow.{Bor, MutBor}
 use denote.Triple.Both.{Both}

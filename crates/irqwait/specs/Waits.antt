@@ -1,7 +1,6 @@
 -- The wait table in memory and on paper: eight places, each free or with a task that waits for a cookie, and a mark or
 -- none under each of 64 slots.
-use Rattle.std.specs.Prelude.{◌≡◌, Bool, true, cond, List, map, ℕ, ◌<◌, length, get_or, eqb}
-use Rattle.std.proofs.Math.Option.{Option, some, none}
+use Rattle.std.specs.Prelude.{◌≡◌, Bool, true, cond, List, map, ℕ, ◌<◌, length, get_or, eqb, Option, Some, None}
 use Rattle.lists.specs.Flags.{FLAGS, is_set}
 use Rattle.lists.specs.Tab.{tab}
 use Rattle.lists.specs.Each.{Each}
@@ -29,10 +28,10 @@ pub record Waits : Type 0 where
 
 -- what an entry in memory is on paper: one that is not live, or not set, holds nothing
 abbrev pub wait_of : Waiter → Option Wait
-wait_of w = cond (is_set w.live) (some (record { cookie = w.cookie.0; id = w.task })) none
+wait_of w = cond (is_set w.live) (Some (record { cookie = w.cookie.0; id = w.task })) None
 
 abbrev pub mark_at : List ℕ → List ℕ → List ℕ → ℕ → Option TaskId
-mark_at pending slots epochs s = cond (is_set (get_or pending s 0)) (some (record { slot = get_or slots s 0; epoch = get_or epochs s 0 })) none
+mark_at pending slots epochs s = cond (is_set (get_or pending s 0)) (Some (record { slot = get_or slots s 0; epoch = get_or epochs s 0 })) None
 
 abbrev pub waits_of : List Waiter → List (Option Wait)
 waits_of l = map wait_of l
@@ -58,17 +57,17 @@ same_cookie w v = has_cookie w.cookie v
 abbrev pub same_task : Wait → Wait → Bool
 same_task w v = is_for w.id v
 
--- Document 01, "Wait table": live cookies distinct, live ids distinct with slot below 64 ..
+-- the cookies of those that wait are distinct, their ids are distinct, and each id's slot is below 64 ..
 pub record SoundWaiters (ws : List (Option Wait)) : Type 0 where
   pub places : length ws ≡ WAITERS
   pub cookies : Distinct same_cookie ws
   pub ids : Distinct same_task ws
-  pub slots : (i : ℕ) → Holds (λ (w : Wait). w.id.slot < MARKS) (get_or ws i none)
+  pub slots : (i : ℕ) → Holds (λ (w : Wait). w.id.slot < MARKS) (get_or ws i None)
 
 -- .. each mark kept under its own slot
 pub record SoundMarks (ms : List (Option TaskId)) : Type 0 where
   pub places : length ms ≡ MARKS
-  pub own : (s : ℕ) → Holds (λ (id : TaskId). id.slot ≡ s) (get_or ms s none)
+  pub own : (s : ℕ) → Holds (λ (id : TaskId). id.slot ≡ s) (get_or ms s None)
 
 pub record SoundWaits (w : Waits) : Type 0 where
   pub waiters : SoundWaiters w.waiters

@@ -1,51 +1,37 @@
 // What a supervisor may do, for every idle flag and every state.
 use answers::State;
-use lifecycle::{CancelVerdict, ForceError, ForceVerdict, ReapError, ReapVerdict, Target};
+use std::io;
 
-fn reap(rt: &impl Print, v: ReapVerdict) {
-    match v {
-        ReapVerdict::Cancel => say::text(rt, b" Cancel"),
-        ReapVerdict::Refuse(why) => match why {
-            ReapError::Idle => say::text(rt, b" Idle"),
-            ReapError::BadId => say::text(rt, b" BadId"),
-            ReapError::NotBlocked => say::text(rt, b" NotBlocked"),
-        },
+fn reap(rt: &impl Print, is_idle: bool, target: Option<State>) -> io::Result<()> {
+    match lifecycle::reap(is_idle, target) {
+        Ok(()) => print!(rt; " Cancel"),
+        Err(why) => print!(rt; " {why:?}"),
     }
 }
 
-fn force(rt: &impl Print, v: ForceVerdict) {
-    match v {
-        ForceVerdict::FlagAndCancel => say::text(rt, b" FlagAndCancel"),
-        ForceVerdict::FlagAndNudge => say::text(rt, b" FlagAndNudge"),
-        ForceVerdict::Refuse(why) => match why {
-            ForceError::Idle => say::text(rt, b" Idle"),
-            ForceError::BadId => say::text(rt, b" BadId"),
-            ForceError::Empty => say::text(rt, b" Empty"),
-        },
+fn force(rt: &impl Print, is_idle: bool, target: Option<State>) -> io::Result<()> {
+    match lifecycle::force(is_idle, target) {
+        Ok(how) => print!(rt; " {how:?}"),
+        Err(why) => print!(rt; " {why:?}"),
     }
 }
 
-fn cancel(rt: &impl Print, v: CancelVerdict) {
-    match v {
-        CancelVerdict::MarkAndWake => say::text(rt, b" MarkAndWake"),
-        CancelVerdict::Refuse => say::text(rt, b" Refuse"),
+// Both verdicts by either idle flag, and the one that asks for none.
+fn verdicts(rt: &impl Print, target: Option<State>) -> io::Result<()> {
+    for is_idle in [false, true] {
+        reap(rt, is_idle, target)?;
     }
+    for is_idle in [false, true] {
+        force(rt, is_idle, target)?;
+    }
+    print!(rt; " {:?}", lifecycle::cancel(target))
 }
 
-fn all(rt: &impl Print, target: Target) {
-    reap(rt, lifecycle::reap(false, target));
-    reap(rt, lifecycle::reap(true, target));
-    force(rt, lifecycle::force(false, target));
-    force(rt, lifecycle::force(true, target));
-    cancel(rt, lifecycle::cancel(target));
-}
-
-pub fn every_state(rt: &impl Print) {
-    say::text(rt, b"life");
-    all(rt, Target::Unknown);
-    all(rt, Target::Is(State::Empty));
-    all(rt, Target::Is(State::Ready));
-    all(rt, Target::Is(State::Running));
-    all(rt, Target::Is(State::Blocked));
-    say::end(rt);
+pub fn every_state(rt: &impl Print) -> io::Result<()> {
+    print!(rt; "life")?;
+    verdicts(rt, None)?;
+    for state in [State::Empty, State::Ready, State::Running, State::Blocked] {
+        verdicts(rt, Some(state))?;
+    }
+    say::end(rt)
 }

@@ -1,18 +1,12 @@
 -- What a supervisor may do to a task, by its state's code, or none where its id is not known.
-use Rattle.std.specs.Prelude.{Bool, cond, ℕ, eqb}
-use Rattle.std.proofs.Math.Option.{Option, some, none}
-use Rattle.answers.specs.Answers.{state_no}
+use Rattle.std.specs.Prelude.{Bool, cond, ℕ, eqb, Option, Some, None, Result, Ok, Err}
 use Rattle.model.specs.Model.{EMPTY, BLOCKED}
-use Rattle.lifecycle.specs.declared.Target as target
-use Rattle.lifecycle.specs.declared.Target.TheVariants as target-of
 use Rattle.lifecycle.specs.declared.ReapError as reap-error
 use Rattle.lifecycle.specs.declared.ReapError.TheVariants as reap-error-of
 use Rattle.lifecycle.specs.declared.ForceError as force-error
 use Rattle.lifecycle.specs.declared.ForceError.TheVariants as force-error-of
-use Rattle.lifecycle.specs.declared.ReapVerdict as reap-verdict
-use Rattle.lifecycle.specs.declared.ReapVerdict.TheVariants as reap-verdict-of
-use Rattle.lifecycle.specs.declared.ForceVerdict as force-verdict
-use Rattle.lifecycle.specs.declared.ForceVerdict.TheVariants as force-verdict-of
+use Rattle.lifecycle.specs.declared.Forced as forced
+use Rattle.lifecycle.specs.declared.Forced.TheVariants as forced-of
 use Rattle.lifecycle.specs.declared.CancelVerdict as cancel-verdict
 use Rattle.lifecycle.specs.declared.CancelVerdict.TheVariants as cancel-verdict-of
 
@@ -30,29 +24,25 @@ pub data Verdict : Type 0 where
 
 -- a task that is known ends by a reap just when it is Blocked
 abbrev pub reap_known : Option ℕ → Verdict
-reap_known none = refuses bad_id
-reap_known (some s) = cond (eqb s BLOCKED) cancels (refuses not_blocked)
+reap_known None = refuses bad_id
+reap_known (Some s) = cond (eqb s BLOCKED) cancels (refuses not_blocked)
 
 abbrev pub reap_of : Bool → Option ℕ → Verdict
 reap_of idle s = cond idle (refuses is_idle) (reap_known s)
 
 -- and by force in every state but Empty
 abbrev pub force_known : Option ℕ → Verdict
-force_known none = refuses bad_id
-force_known (some s) = cond (eqb s EMPTY) (refuses is_empty) (cond (eqb s BLOCKED) flags_and_cancels flags_and_nudges)
+force_known None = refuses bad_id
+force_known (Some s) = cond (eqb s EMPTY) (refuses is_empty) (cond (eqb s BLOCKED) flags_and_cancels flags_and_nudges)
 
 abbrev pub force_of : Bool → Option ℕ → Verdict
 force_of idle s = cond idle (refuses is_idle) (force_known s)
 
 abbrev pub cancel_of : Option ℕ → Verdict
-cancel_of none = nothing
-cancel_of (some s) = cond (eqb s BLOCKED) marks_and_wakes nothing
+cancel_of None = nothing
+cancel_of (Some s) = cond (eqb s BLOCKED) marks_and_wakes nothing
 
--- THE CODE'S ENUMS
-
-abbrev pub target_state : target.Target → Option ℕ
-target_state (target-of.Is s) = some (state_no s)
-target_state target-of.Unknown = none
+-- WHAT THE CODE ANSWERS
 
 abbrev pub reap_reason : reap-error.ReapError → Reason
 reap_reason reap-error-of.Idle = is_idle
@@ -64,14 +54,17 @@ force_reason force-error-of.Idle = is_idle
 force_reason force-error-of.BadId = bad_id
 force_reason force-error-of.Empty = is_empty
 
-abbrev pub reap_verdict : reap-verdict.ReapVerdict → Verdict
-reap_verdict reap-verdict-of.Cancel = cancels
-reap_verdict (reap-verdict-of.Refuse e) = refuses (reap_reason e)
+abbrev pub reap_verdict : Result (Unit {0}) reap-error.ReapError → Verdict
+reap_verdict (Ok u) = cancels
+reap_verdict (Err e) = refuses (reap_reason e)
 
-abbrev pub force_verdict : force-verdict.ForceVerdict → Verdict
-force_verdict force-verdict-of.FlagAndCancel = flags_and_cancels
-force_verdict force-verdict-of.FlagAndNudge = flags_and_nudges
-force_verdict (force-verdict-of.Refuse e) = refuses (force_reason e)
+abbrev pub forced_verdict : forced.Forced → Verdict
+forced_verdict forced-of.FlagAndCancel = flags_and_cancels
+forced_verdict forced-of.FlagAndNudge = flags_and_nudges
+
+abbrev pub force_verdict : Result forced.Forced force-error.ForceError → Verdict
+force_verdict (Ok f) = forced_verdict f
+force_verdict (Err e) = refuses (force_reason e)
 
 abbrev pub cancel_verdict : cancel-verdict.CancelVerdict → Verdict
 cancel_verdict cancel-verdict-of.MarkAndWake = marks_and_wakes

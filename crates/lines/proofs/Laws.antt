@@ -1,59 +1,9 @@
--- Laws on lines: which word a word is, what was read of the fields, and how many words there are.
-use mathlib.Core.Path.{◌≡◌, refl, sym, ap, ◌∙◌}
-use mathlib.Core.Bool.{Bool, true, false}
-use mathlib.Core.List.{List, [], ◌∷◌}
-use mathlib.Core.Option.{Option, none, some}
-use Prim.Native.Nat.{ℕ, ◌+◌, ◌-◌, ◌≤◌, ◌<◌}
-use Prim.Native.String.{String}
-use native.Mathlib.Nat.{not-suc-le-zero, zero-add}
-use native.Mathlib.Omega.{arith}
-use borrow.Author.Tests.{lt-ltb, le-ltb}
-use lib.ListN.{length, take, drop, length-drop}
-use lib.Seq.{drop-drop}
-use Rattle.lists.specs.Each.{Each}
-use Rattle.text.specs.Text.{SPACE, bytes, same, split, up_to}
-use Rattle.text.proofs.ReadLaws.{same_is, split_one, split-cons, split-some}
-use Rattle.lines.specs.Asked.{Asked, unreadable}
-use Rattle.lines.specs.Lines.{LONGEST, pick, with_one, with_two, one_word, two_words, three_words, read_words, read_line}
-
--- WORDS OF A TABLE. After a test that said yes the table is looked up at the literal, which computes: the tests before it
--- need no word. Only where all of them said no does each count.
-
-pub is_word : (w s : List ℕ) {r : Bool} → r ≡ same w s → r ≡ true → w ≡ s
-is_word w s e t = same_is w s (sym e ∙ t)
-
-pub miss : {r t : Bool} → r ≡ t → r ≡ false → t ≡ false
-miss e f = sym e ∙ f
-
-pub unlisted : {A : Type 0} (other : A) (w : List ℕ) (ps : List (String × A)) → Each (λ p. same w (bytes p.0) ≡ false) ps → other ≡ pick other w ps
-unfolding Each pick
-unlisted other w [] h = refl
-unlisted other w (p ∷ ps) h = rw h.0 (unlisted other w ps h.1)
-
--- FIELDS
-
-module _ {A : Type 0} (ask : A → Asked) (o : Option A) where
-  pub no_field : o ≡ none → unreadable ≡ with_one ask o
-  unfolding with_one
-  no_field e = rw e
-
-  pub field_is : (x : A) → o ≡ some x → ask x ≡ with_one ask o
-  unfolding with_one
-  field_is x e = rw e
-
-module _ {A B : Type 0} (ask : A → B → Asked) (o : Option A) (p : Option B) where
-  pub no_first : o ≡ none → unreadable ≡ with_two ask o p
-  unfolding with_two
-  no_first e = rw e
-
-  -- past the first field the command has one
-  pub then_one : (x : A) {r : Asked} → o ≡ some x → r ≡ with_one (ask x) p → r ≡ with_two ask o p
-  unfolding with_one with_two
-  then_one x e f = rw e (f ∙ one p)
-    where
-      one : (q : Option B) → with_one (ask x) q ≡ with_two ask (some x) q
-      one none = refl
-      one (some y) = refl
+-- Laws on lines: how many words there are.
+use Rattle.std.proofs.Common.{◌≡◌, ℕ, ◌+◌, ◌-◌, ◌<◌, ◌≤◌, List, [], ◌∷◌, length, take, drop, sym, refl, ap, ◌∙◌, not-suc-le-zero, zero-add, arith, length-drop, drop-drop, le-ltb, lt-ltb}
+use Rattle.text.specs.Text.{SPACE, split, up_to}
+use Rattle.text.proofs.ReadLaws.{split_one, split-cons, split-some}
+use Rattle.lines.specs.Asked.{unreadable}
+use Rattle.lines.specs.Lines.{LONGEST, one_word, two_words, three_words, read_words, read_line}
 
 -- HOW MANY WORDS
 

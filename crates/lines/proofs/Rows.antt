@@ -1,11 +1,7 @@
--- Lines and what they ask for, computed: document 01's example, each command once, and what is just inside or just outside
--- what can be read.
-use mathlib.Core.Path.{◌≡◌, refl}
-use mathlib.Core.Bool.{true, false}
-use mathlib.Core.List.{List, [], ◌∷◌, map}
-use Prim.Native.Nat.{◌+◌}
+-- Lines and what they ask for, computed: an example, each command once, and what is just inside or just outside what can be
+-- read.
+use Rattle.std.proofs.Common.{◌≡◌, ◌+◌, true, false, List, [], ◌∷◌, map, length, refl}
 use Prim.Native.String.{String}
-use lib.ListN.{length}
 use Rattle.model.specs.Switch.{yield, preempt, block, exit}
 use Rattle.model.specs.Calls as task
 use Rattle.irqwait.specs.Calls as wait

@@ -1,5 +1,5 @@
 -- What a line of a script asks for, on paper, and which of these each answer of the code's reader is.
-use Rattle.std.specs.Prelude.{replicate, ℕ}
+use Rattle.std.specs.Prelude.{replicate, ℕ, Option, Some, None}
 use Rattle.model.specs.Calls as task
 use Rattle.irqwait.specs.Calls as wait
 use Rattle.parktime.specs.Deadlines.{PLACES}
@@ -55,11 +55,11 @@ abbrev pub wake_call : WakeCall → token.Call
 wake_call (token-of.Push t) = token.push t.0
 wake_call token-of.Pop = token.pop
 
-abbrev pub line_of : Line → Asked
-line_of (Line-of.New n) = afresh n
-line_of (Line-of.Tasks k) = calls (on_tasks (task_call k))
-line_of (Line-of.Waits k) = calls (on_waits (wait_call k))
-line_of (Line-of.Deadlines k) = calls (on_deadlines (deadline_call k))
-line_of (Line-of.Poll now) = calls (on_deadlines (poll_at now))
-line_of (Line-of.Wakes k) = calls (on_wakes (wake_call k))
-line_of Line-of.Unreadable = unreadable
+abbrev pub line_of : Option Line → Asked
+line_of None = unreadable
+line_of (Some (Line-of.New n)) = afresh n
+line_of (Some (Line-of.Tasks k)) = calls (on_tasks (task_call k))
+line_of (Some (Line-of.Waits k)) = calls (on_waits (wait_call k))
+line_of (Some (Line-of.Deadlines k)) = calls (on_deadlines (deadline_call k))
+line_of (Some (Line-of.Poll now)) = calls (on_deadlines (poll_at now))
+line_of (Some (Line-of.Wakes k)) = calls (on_wakes (wake_call k))

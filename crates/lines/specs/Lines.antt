@@ -1,7 +1,6 @@
--- Document 01, "The program `events`": the commands, and what each field may be. A line has at most 80 bytes, its words stand
--- one space apart, and its first word says what it asks for. Everything else is unreadable: 12.
-use Rattle.std.specs.Prelude.{Bool, true, false, cond, List, [], ◌∷◌, ℕ, ltb, length}
-use Rattle.std.proofs.Math.Option.{Option, none, some}
+-- The commands, and what each field may be. A line has at most 80 bytes, its words stand one space apart, and its first word
+-- says what it asks for. Everything else is unreadable: 12.
+use Rattle.std.specs.Prelude.{Bool, true, false, cond, List, [], ◌∷◌, ℕ, ltb, length, Option, Some, None}
 use Prim.Native.String.{String}
 use Rattle.model.specs.Switch.{Kind, yield, preempt, block, exit}
 use Rattle.model.specs.Calls as task
@@ -20,21 +19,21 @@ pick other w (p ∷ ps) = cond (same w (bytes p.0)) p.1 (pick other w ps)
 
 -- a command with one field or two, where each can be read
 unfoldable pub with_one : {A : Type 0} → (A → Asked) → Option A → Asked
-with_one ask none = unreadable
-with_one ask (some x) = ask x
+with_one ask None = unreadable
+with_one ask (Some x) = ask x
 
 unfoldable pub with_two : {A B : Type 0} → (A → B → Asked) → Option A → Option B → Asked
-with_two ask none y = unreadable
-with_two ask (some x) none = unreadable
-with_two ask (some x) (some y) = ask x y
+with_two ask None y = unreadable
+with_two ask (Some x) None = unreadable
+with_two ask (Some x) (Some y) = ask x y
 
 -- FIELDS: N has 16 bits, a CPU 8, a cookie and a token 32, a deadline and NOW 64
 
 unfoldable pub kind_word : List ℕ → Option Kind
-kind_word w = pick none w (("yield", some yield) ∷ ("preempt", some preempt) ∷ ("block", some block) ∷ ("exit", some exit) ∷ [])
+kind_word w = pick None w (("yield", Some yield) ∷ ("preempt", Some preempt) ∷ ("block", Some block) ∷ ("exit", Some exit) ∷ [])
 
 unfoldable pub mark_word : List ℕ → Option Bool
-mark_word w = pick none w (("yes", some true) ∷ ("no", some false) ∷ [])
+mark_word w = pick None w (("yes", Some true) ∷ ("no", Some false) ∷ [])
 
 abbrev pub cpu : List ℕ → Option ℕ
 cpu w = number (largest 8) w

@@ -4,3 +4,4 @@ pub mod RingStores
 pub mod FreshLaws
 pub mod PartLaws
 pub mod Wholes
+pub mod Lent

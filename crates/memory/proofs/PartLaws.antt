@@ -1,9 +1,9 @@
 -- What the code reads off the arrays is what the model reads off the view.
+use Rattle.std.specs.Prelude.{Some, None}
 use mathlib.Core.Path.{◌≡◌, refl, sym, ◌∙◌, ap, ap₂}
 use mathlib.Core.Logic.{⊎_elim}
 use mathlib.Core.Bool.{Bool, true, false, ◌&&◌, ◌||◌, not, cond}
 use mathlib.Core.List.{List}
-use mathlib.Core.Option.{some, none}
 use Prim.Native.Nat.{ℕ, zero, suc, ◌≤◌, ◌<◌, max, suc-le-suc, zero-le}
 use native.Mathlib.Omega.{arith}
 use borrow.Author.Tests.{le-ltb}
@@ -69,7 +69,7 @@ module _ (t : Tasks) where
   view-vacant : (s : ℕ) → s < t.small.n → vacant (view t) s ≡ vacant_in t.states t.small.parked t.small.parked_id.slot s
   view-vacant s h = rw (view-parked t) (ap₂ (λ a b. eqb a EMPTY && not b) (view-state t s h) (go (is_set t.small.parked)))
     where
-      go : (b : Bool) → taken (λ (p : TaskId). eqb p.slot s) (cond b (some t.small.parked_id) none) ≡ (b && eqb t.small.parked_id.slot s)
+      go : (b : Bool) → taken (λ (p : TaskId). eqb p.slot s) (cond b (Some t.small.parked_id) None) ≡ (b && eqb t.small.parked_id.slot s)
       go true = refl
       go false = refl
 

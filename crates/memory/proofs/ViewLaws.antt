@@ -1,8 +1,8 @@
 -- Reading through the view, and what a store into what slots have, into what CPUs have and into the rest is in the model.
+use Rattle.std.specs.Prelude.{Some, None}
 use mathlib.Core.Path.{◌≡◌, refl, sym, ◌∙◌, ap}
 use mathlib.Core.Bool.{cond}
 use mathlib.Core.List.{List}
-use mathlib.Core.Option.{some, none}
 use Prim.Native.Nat.{ℕ, ◌*◌, ◌<◌}
 use native.Mathlib.Omega.{arith}
 use native.Mathlib.Decide.{ℕ_discrete}
@@ -66,7 +66,7 @@ module _ (t : Tasks) where
       ap (λ (k : Cpu). length k.queue) (view-cpu c h)
       ∙ around-length (id_at t.ring_slots t.ring_epochs) t.small.n (c * SPAN) (head_of t c) (len_of t c)
 
-  pub view-parked : (view t).parked ≡ cond (is_set t.small.parked) (some t.small.parked_id) none
+  pub view-parked : (view t).parked ≡ cond (is_set t.small.parked) (Some t.small.parked_id) None
   unfolding view
   view-parked = refl
 
@@ -206,7 +206,7 @@ module _ (t : Tasks) (c : ℕ) (r : Rep t) (hc : c < CPUS) (x : TaskId) where
 
 -- THE REST
 
-pub store_rest : (t : Tasks) (p : ℕ) (x : TaskId) (o b k : ℕ) → view (put_rest t p x o b k) ≡ rest_to (view t) (cond (is_set p) (some x) none) o b k
+pub store_rest : (t : Tasks) (p : ℕ) (x : TaskId) (o b k : ℕ) → view (put_rest t p x o b k) ≡ rest_to (view t) (cond (is_set p) (Some x) None) o b k
 unfolding view cpu_at
 store_rest t p x o b k = refl
 

@@ -1,68 +1,50 @@
--- A table whose arrays are lent, beside its small part: what a contract over references says of it.
-use Rattle.std.specs.Prelude.{List, ℕ}
-use Rattle.std.specs.Borrow.{Bor, MutBor}
-use denote.Triple.Both.{Both}
+-- A table that is lent: what a contract over references says of it. The arrays and the small part may lie anywhere.
+use Rattle.std.specs.Prelude.{◌≡◌, List, ℕ}
 use Rattle.answers.specs.Reply.{Reply}
 use Rattle.answers.specs.Contract.{Step, MakesAt, Does, Reads, Meets, Answers}
 use Rattle.model.specs.Model.{Model}
 use Rattle.memory.specs.declared.Small.{Small}
 use Rattle.memory.specs.declared.Tasks.{Tasks}
+use Rattle.memory.specs.declared.TasksMut.{TasksMut}
+use Rattle.memory.specs.declared.TasksRef.{TasksRef}
 use Rattle.memory.specs.View.{view, table}
 
 -- the table from its arrays and its small part
 abbrev pub whole : List ℕ → List ℕ → List ℕ → List ℕ → List ℕ → List ℕ → Small → Tasks
 whole states epochs homes marks slots tenures s = record { small = s; states = states; epochs = epochs; homes = homes; marks = marks; ring_slots = slots; ring_epochs = tenures }
 
--- an array that is lent to be changed, as a call finds it; and one that is lent to be read
-abbrev pub Array : Type 0
-Array = MutBor (List ℕ)
+-- the table that stands behind references
+abbrev pub lent : TasksMut → Tasks
+lent t = whole t.states.now t.epochs.now t.homes.now t.marks.now t.ring_slots.now t.ring_epochs.now t.small.now
 
-abbrev pub Shown : Type 0
-Shown = Bor (List ℕ)
+abbrev pub shown : TasksRef → Tasks
+shown t = whole t.states.now t.epochs.now t.homes.now t.marks.now t.ring_slots.now t.ring_epochs.now t.small.now
 
--- and as it was and is, once the call has returned; of one that is lent to be read only what it was
-abbrev pub Changed : Type 0
-Changed = Both Array Array
+-- the references are those that were handed in: what is stored through them is stored where the caller lent it
+abbrev pub Stays : TasksMut → TasksMut → Type 0
+Stays t u =
+    (u.small.ghost_name ≡ t.small.ghost_name)
+    × (u.states.ghost_name ≡ t.states.ghost_name)
+    × (u.epochs.ghost_name ≡ t.epochs.ghost_name)
+    × (u.homes.ghost_name ≡ t.homes.ghost_name)
+    × (u.marks.ghost_name ≡ t.marks.ghost_name)
+    × (u.ring_slots.ghost_name ≡ t.ring_slots.ghost_name)
+    × (u.ring_epochs.ghost_name ≡ t.ring_epochs.ghost_name)
 
-abbrev pub Seen : Type 0 → Type 0
-Seen A = Both Shown A
+-- the contract of an inner call, and of a call of the product, from the table as it was and as it is
+abbrev pub DoesLent : TasksMut → TasksMut → Reply → (Model → Step Model) → Type 0
+DoesLent t u got step = Stays t u × Does table (lent t) (lent u) got (step (view (lent t)))
 
--- the table before the call ..
-abbrev pub lent : Array → Array → Array → Array → Array → Array → Small → Tasks
-lent states epochs homes marks slots tenures s = whole states.now epochs.now homes.now marks.now slots.now tenures.now s
-
-abbrev pub shown : Shown → Shown → Shown → Shown → Shown → Shown → Small → Tasks
-shown states epochs homes marks slots tenures s = whole states.now epochs.now homes.now marks.now slots.now tenures.now s
-
--- .. and, once it has returned, as it was ..
-abbrev pub was : Changed → Changed → Changed → Changed → Changed → Changed → Small → Tasks
-was states epochs homes marks slots tenures s = lent states.entry epochs.entry homes.entry marks.entry slots.entry tenures.entry s
-
--- .. and as it is
-abbrev pub left : Changed → Changed → Changed → Changed → Changed → Changed → Small → Tasks
-left states epochs homes marks slots tenures s = lent states.exit epochs.exit homes.exit marks.exit slots.exit tenures.exit s
-
--- one that is read stays
-abbrev pub stays : {A B C D E F : Type 0} → Seen A → Seen B → Seen C → Seen D → Seen E → Seen F → Small → Tasks
-stays states epochs homes marks slots tenures s = shown states.entry epochs.entry homes.entry marks.entry slots.entry tenures.entry s
-
--- the contract of an inner call, and of a call of the product
-abbrev pub DoesLent : Changed → Changed → Changed → Changed → Changed → Changed → Small → Small → Reply → (Model → Step Model) → Type 0
-DoesLent states epochs homes marks slots tenures s u got step =
-    let t = was states epochs homes marks slots tenures s in Does table t (left states epochs homes marks slots tenures u) got (step (view t))
-
-abbrev pub MeetsLent : Changed → Changed → Changed → Changed → Changed → Changed → Small → Small → Reply → (Model → Step Model) → Type 0
-MeetsLent states epochs homes marks slots tenures s u got step =
-    let t = was states epochs homes marks slots tenures s in Meets table t (left states epochs homes marks slots tenures u) got (step (view t))
+abbrev pub MeetsLent : TasksMut → TasksMut → Reply → (Model → Step Model) → Type 0
+MeetsLent t u got step = Stays t u × Meets table (lent t) (lent u) got (step (view (lent t)))
 
 -- of a maker: what lay there before, and what lies there now
-abbrev pub MakesLent : Changed → Changed → Changed → Changed → Changed → Changed → Small → Small → Reply → Step Model → Type 0
-MakesLent states epochs homes marks slots tenures s u got want =
-    MakesAt table (was states epochs homes marks slots tenures s) (left states epochs homes marks slots tenures u) got want
+abbrev pub MakesLent : TasksMut → TasksMut → Reply → Step Model → Type 0
+MakesLent t u got want = Stays t u × MakesAt table (lent t) (lent u) got want
 
--- likewise of calls that only read
-abbrev pub ReadsLent : {A B C D E F : Type 0} → Seen A → Seen B → Seen C → Seen D → Seen E → Seen F → Small → Reply → (Model → Reply) → Type 0
-ReadsLent states epochs homes marks slots tenures s got want = let t = stays states epochs homes marks slots tenures s in Reads table t got (want (view t))
+-- of calls that only read
+abbrev pub ReadsLent : TasksRef → Reply → (Model → Reply) → Type 0
+ReadsLent t got want = Reads table (shown t) got (want (view (shown t)))
 
-abbrev pub AnswersLent : {A B C D E F : Type 0} → Seen A → Seen B → Seen C → Seen D → Seen E → Seen F → Small → Reply → (Model → Reply) → Type 0
-AnswersLent states epochs homes marks slots tenures s got want = let t = stays states epochs homes marks slots tenures s in Answers table t got (want (view t))
+abbrev pub AnswersLent : TasksRef → Reply → (Model → Reply) → Type 0
+AnswersLent t got want = Answers table (shown t) got (want (view (shown t)))

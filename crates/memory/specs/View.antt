@@ -1,6 +1,5 @@
 -- From the table in memory to the model: arrays cut to N, each ring read from head to tail, flags as true or false.
-use Rattle.std.specs.Prelude.{◌≡◌, cond, map, ℕ, ◌*◌, ◌≤◌, ◌<◌, length, get_or, take}
-use Rattle.std.proofs.Math.Option.{some, none}
+use Rattle.std.specs.Prelude.{◌≡◌, cond, map, ℕ, ◌*◌, ◌≤◌, ◌<◌, length, get_or, take, Some, None}
 use Rattle.lists.specs.Flags.{FLAGS, is_set}
 use Rattle.lists.specs.Tab.{tab}
 use Rattle.ids.specs.Id.{idle}
@@ -37,7 +36,7 @@ view t =
       homes = take t.small.n t.homes;
       marks = map is_set (take t.small.n t.marks);
       cpus = tab CPUS (cpu_at t);
-      parked = cond (is_set t.small.parked) (some t.small.parked_id) none;
+      parked = cond (is_set t.small.parked) (Some t.small.parked_id) None;
       overwrites = t.small.overwrites;
       block_events = t.small.block_events;
       peak = t.small.peak;

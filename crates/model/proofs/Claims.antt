@@ -1,9 +1,9 @@
 -- Tables just made are sound, and so is a table on which a CPU has been started.
+use Rattle.std.specs.Prelude.{Some}
 use mathlib.Core.Path.{◌≡◌, refl, sym, ◌∙◌, ap, subst}
 use mathlib.Core.Logic.{inl, inr}
 use mathlib.Core.Bool.{true, false, ◌&&◌}
 use mathlib.Core.List.{List, []}
-use mathlib.Core.Option.{some}
 use Prim.Native.Nat.{ℕ, ◌≤◌, ◌<◌}
 use native.Mathlib.Omega.{arith}
 use native.Mathlib.Decide.{ℕ_discrete}
@@ -81,7 +81,7 @@ module _ (m : Model) (shape : Shape m) (c s : ℕ) (hc : c < CPUS) (hs : s < m.n
             ];
       }
 
-  claims_live : Core w CPUS → Awake w → ((x : TaskId) → m.parked ≡ some x → x.slot ≡ s → ⊥) → Holds (ParkedOk m) m.parked → m.peak ≤ m.n
+  claims_live : Core w CPUS → Awake w → ((x : TaskId) → m.parked ≡ Some x → x.slot ≡ s → ⊥) → Holds (ParkedOk m) m.parked → m.peak ≤ m.n
       → Shape (claimed m c s) × Live (claimed m c s)
   unfolding claimed
   claims_live core awake other o high =

@@ -1,9 +1,9 @@
 -- What is added to the core where a call ends: idles are Ready or Running, a parked id's slot is Empty, the peak is between the
 -- occupied slots and N. Each of these under one change of state.
+use Rattle.std.specs.Prelude.{Option, Some, None}
 use mathlib.Core.Path.{◌≡◌, refl, sym, ◌∙◌, ap, subst}
 use mathlib.Core.Bool.{Bool, true, not}
 use mathlib.Core.List.{List}
-use mathlib.Core.Option.{Option, some, none}
 use Prim.Native.Nat.{ℕ, ◌≤◌, ◌<◌}
 use native.Mathlib.Omega.{arith}
 use native.Mathlib.Decide.{ℕ_discrete}
@@ -45,10 +45,10 @@ full s = not (eqb s EMPTY)
 
 -- a parked id's slot stays as it was
 pub parked_by : (m w : Model) (p : Option TaskId) → w.n ≡ m.n
-    → ((x : TaskId) → p ≡ some x → state_of m x.slot ≡ EMPTY → (state_of w x.slot ≡ state_of m x.slot) × (epoch_of w x.slot ≡ epoch_of m x.slot))
+    → ((x : TaskId) → p ≡ Some x → state_of m x.slot ≡ EMPTY → (state_of w x.slot ≡ state_of m x.slot) × (epoch_of w x.slot ≡ epoch_of m x.slot))
     → Holds (ParkedOk m) p → Holds (ParkedOk w) p
-parked_by m w none n f o = tt
-parked_by m w (some x) n f o =
+parked_by m w None n f o = tt
+parked_by m w (Some x) n f o =
     let a = f x refl o.state in
     record { slot = rw n o.slot; other = o.other; state = a.0 ∙ o.state; fits = o.fits; epoch = o.epoch ∙ sym a.1 }
 
@@ -85,7 +85,7 @@ module _ (m w : Model) (s v : ℕ) (shape : Shape m) (hs : s < m.n) (states : w.
 
   module _ (n : w.n ≡ m.n) (epochs : (i : ℕ) → (i ≡ s → ⊥) → epoch_of w i ≡ epoch_of m i) (parked : w.parked ≡ m.parked) (peak : w.peak ≡ m.peak) where
     -- another slot than the parked one
-    parked-set : ((x : TaskId) → m.parked ≡ some x → state_of m x.slot ≡ EMPTY → x.slot ≡ s → ⊥) → Holds (ParkedOk m) m.parked → Holds (ParkedOk w) w.parked
+    parked-set : ((x : TaskId) → m.parked ≡ Some x → state_of m x.slot ≡ EMPTY → x.slot ≡ s → ⊥) → Holds (ParkedOk m) m.parked → Holds (ParkedOk w) w.parked
     parked-set away o =
         subst (λ p. Holds (ParkedOk w) p) (sym parked)
         (parked_by m w m.parked n
@@ -103,7 +103,7 @@ module _ (m w : Model) (s v : ℕ) (shape : Shape m) (hs : s < m.n) (states : w.
         }
 
     -- a free slot is taken, which the peak notes
-    pub ends-noted : ((x : TaskId) → m.parked ≡ some x → x.slot ≡ s → ⊥) → Holds (ParkedOk m) m.parked → m.peak ≤ m.n → Awake w → Ends (noted w)
+    pub ends-noted : ((x : TaskId) → m.parked ≡ Some x → x.slot ≡ s → ⊥) → Holds (ParkedOk m) m.parked → m.peak ≤ m.n → Awake w → Ends (noted w)
     ends-noted other o high awake =
         record {
           awake = record { idles = awake.idles };

@@ -1,9 +1,9 @@
 -- What a caller can use of a sound table, each fact by its name.
+use Rattle.std.specs.Prelude.{Some}
 use mathlib.Core.Path.{◌≡◌, refl, sym, ◌∙◌, ap, ap₂}
 use mathlib.Core.Logic.{inr, ⊎_elim}
 use mathlib.Core.Bool.{Bool, true, false, ◌||◌, not, cond}
 use mathlib.Core.List.{List, [], ◌∷◌}
-use mathlib.Core.Option.{some}
 use Prim.Native.Nat.{ℕ, zero, suc, ◌+◌, ◌-◌, ◌<◌}
 use native.Mathlib.Omega.{arith}
 use lib.ListN.{length, get_or}
@@ -171,7 +171,7 @@ module _ (m : Model) (h : ℕ) (k : Core m h) where
 
 pub record Vacant (m : Model) (s : ℕ) : Type 0 where
   pub empty : state_of m s ≡ EMPTY
-  pub other : (x : TaskId) → m.parked ≡ some x → x.slot ≡ s → ⊥
+  pub other : (x : TaskId) → m.parked ≡ Some x → x.slot ≡ s → ⊥
 
 pub vacant_is : (m : Model) (s : ℕ) → vacant m s ≡ true → Vacant m s
 vacant_is m s e =

@@ -1,8 +1,8 @@
 -- Every call keeps a table sound.
+use Rattle.std.specs.Prelude.{None}
 use mathlib.Core.Path.{◌≡◌, refl}
 use mathlib.Core.Bool.{Bool, true, false, ◌&&◌, not}
 use mathlib.Core.List.{List, [], ◌∷◌}
-use mathlib.Core.Option.{none}
 use native.Mathlib.Omega.{arith}
 use borrow.Author.Tests.{not-true}
 use Rattle.lists.proofs.Basics.{both_true}
@@ -34,9 +34,9 @@ module _ (m : Model) (shape : Shape m) (v : Live m) where
         high = v.high;
       })
 
-  pub collected_live : Shape (with_parked m none) × Live (with_parked m none)
+  pub collected_live : Shape (with_parked m None) × Live (with_parked m None)
   collected_live =
-      finish (with_parked m none) (core_rest m CPUS none m.overwrites m.block_events m.peak (live_core m shape v))
+      finish (with_parked m None) (core_rest m CPUS None m.overwrites m.block_events m.peak (live_core m shape v))
       (record { awake = record { idles = (live-ends m v).awake.idles }; parked = tt; low = v.low; high = v.high })
 
 pub mark-sound : (m : Model) (id : TaskId) (b : Bool) → Sound m → Sound (mark_step m id b).after
@@ -51,7 +51,7 @@ mark-sound m id b s =
 
 pub collect-sound : (m : Model) → Sound m → Sound (collect_step m).after
 unfolding collect_step
-collect-sound m s = step-started m _ s (λ v. sound-live (with_parked m none) (collected_live m s.shape v))
+collect-sound m s = step-started m _ s (λ v. sound-live (with_parked m None) (collected_live m s.shape v))
 
 pub step-sound : (m : Model) (k : Call) → Sound m → Sound (step m k).after
 unfolding step

@@ -1,8 +1,8 @@
 -- Tables that are sound, and tables that are not: the ends of document 01's clauses.
+use Rattle.std.specs.Prelude.{Some, None}
 use mathlib.Core.Path.{refl}
 use mathlib.Core.Bool.{true}
 use mathlib.Core.List.{List, [], ◌∷◌}
-use mathlib.Core.Option.{some, none}
 use Prim.Native.Nat.{ℕ, ◌≤◌}
 use native.Mathlib.Omega.{arith}
 use Rattle.lists.specs.Search.{count_of}
@@ -45,28 +45,28 @@ abbrev pub begun : Model
 begun = left step (fresh 2) (start ∷ [])
 
 -- the peak is at least the occupied slots, and at most N
-pub peak-low : Sound (rest_to begun none 0 0 0) → ⊥
+pub peak-low : Sound (rest_to begun None 0 0 0) → ⊥
 unfolding left step start_step claimed count_of
-peak-low s = let v = live (rest_to begun none 0 0 0) s refl in omega (arith, v.low)
+peak-low s = let v = live (rest_to begun None 0 0 0) s refl in omega (arith, v.low)
 
-pub peak-high : Sound (rest_to begun none 0 0 3) → ⊥
+pub peak-high : Sound (rest_to begun None 0 0 3) → ⊥
 unfolding left step start_step claimed count_of
-peak-high s = let v = live (rest_to begun none 0 0 3) s refl in omega (arith, v.high)
+peak-high s = let v = live (rest_to begun None 0 0 3) s refl in omega (arith, v.high)
 
 -- a parked id has the epoch before its slot's: 65,535 before 0, but not 0 beside 0
-pub parked-now : Sound (rest_to begun (some (id 1 0)) 0 0 1) → ⊥
+pub parked-now : Sound (rest_to begun (Some (id 1 0)) 0 0 1) → ⊥
 unfolding left step start_step claimed count_of
-parked-now s = let v = live (rest_to begun (some (id 1 0)) 0 0 1) s refl in omega (arith, v.parked.epoch)
+parked-now s = let v = live (rest_to begun (Some (id 1 0)) 0 0 1) s refl in omega (arith, v.parked.epoch)
 
 -- so a leaver of epoch 65,535 is parked where the slot's epoch is 0 again
-pub parked-wrap : Sound (rest_to begun (some (id 1 65535)) 0 0 1)
+pub parked-wrap : Sound (rest_to begun (Some (id 1 65535)) 0 0 1)
 unfolding left step start_step claimed count_of
 parked-wrap =
     let s = reached 2 (omega arith) (omega arith) (start ∷ []) in
     let v = live begun s refl in
-    let w = rest_to begun (some (id 1 65535)) 0 0 1 in
+    let w = rest_to begun (Some (id 1 65535)) 0 0 1 in
     sound-live w
-    (finish w (core_rest begun CPUS (some (id 1 65535)) 0 0 1 (live_core begun s.shape v))
+    (finish w (core_rest begun CPUS (Some (id 1 65535)) 0 0 1 (live_core begun s.shape v))
     (record {
       awake = record { idles = (live-ends begun v).awake.idles };
       parked = record { slot = omega arith; other = λ e. omega arith; state = refl; fits = omega arith; epoch = refl };

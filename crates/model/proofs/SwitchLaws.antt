@@ -1,9 +1,9 @@
 -- What a turn answers and leaves, as one change of the table: the head takes over, and the task that ran goes to the tail, or
 -- is Blocked, or leaves its slot. With an empty queue a yield stays.
+use Rattle.std.specs.Prelude.{Some, None}
 use mathlib.Core.Path.{◌≡◌, sym, ◌∙◌, ap}
 use mathlib.Core.Bool.{true}
 use mathlib.Core.List.{List, [], ◌∷◌, ◌++◌}
-use mathlib.Core.Option.{some, none}
 use Prim.Native.Nat.{ℕ, ◌<◌}
 use native.Mathlib.Omega.{arith}
 use lib.ListN.{set}
@@ -28,7 +28,7 @@ slept m c x l = rest_to (handed m c BLOCKED x l) m.parked m.overwrites (capped m
 abbrev pub exited : Model → ℕ → TaskId → List TaskId → Model
 exited m c x l =
     let s = (current_of m c).slot in
-    rest_to (with_epoch (handed m c EMPTY x l) s (bump (epoch_of m s))) (some (current_of m c)) (displaced m.parked m.overwrites) m.block_events m.peak
+    rest_to (with_epoch (handed m c EMPTY x l) s (bump (epoch_of m s))) (Some (current_of m c)) (displaced m.parked m.overwrites) m.block_events m.peak
 
 module _ (m : Model) (shape : Shape m) (v : Live m) (c : ℕ) (hc : c < CPUS) (on : started_on m c ≡ true) where
   abbrev from : TaskId
@@ -57,15 +57,15 @@ module _ (m : Model) (shape : Shape m) (v : Live m) (c : ℕ) (hc : c < CPUS) (o
       ∙ rw (head-other m v c x l hc on e, back_handed x (l ++ (from ∷ [])))
 
   module _ (x : TaskId) (l : List TaskId) (e : queue_of m c ≡ x ∷ l) where
-    pub turn-yield : turn m c yield ≡ record { reply = switched from x none; after = handed m c READY x (l ++ (from ∷ [])) }
+    pub turn-yield : turn m c yield ≡ record { reply = switched from x None; after = handed m c READY x (l ++ (from ∷ [])) }
     unfolding turn leaves parks
     turn-yield = back_next yield x l e
 
-    pub turn-preempt : turn m c preempt ≡ record { reply = switched from x none; after = handed m c READY x (l ++ (from ∷ [])) }
+    pub turn-preempt : turn m c preempt ≡ record { reply = switched from x None; after = handed m c READY x (l ++ (from ∷ [])) }
     unfolding turn leaves parks
     turn-preempt = back_next preempt x l e
 
-    pub turn-block : turn m c block ≡ record { reply = switched from x none; after = slept m c x l }
+    pub turn-block : turn m c block ≡ record { reply = switched from x None; after = slept m c x l }
     unfolding turn leaves chooses enters parks
     turn-block = rw (e, head-other m v c x l hc on e)
 

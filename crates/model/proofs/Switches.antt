@@ -1,8 +1,8 @@
 -- A switch keeps a table sound, whatever it was asked for.
+use Rattle.std.specs.Prelude.{Some}
 use mathlib.Core.Path.{◌≡◌, refl, sym, ◌∙◌, ap, ap₂}
 use mathlib.Core.Bool.{true, ◌&&◌, not}
 use mathlib.Core.List.{List, [], ◌∷◌}
-use mathlib.Core.Option.{some}
 use Prim.Native.Nat.{ℕ, ◌<◌}
 use native.Mathlib.Omega.{arith}
 use lib.ListN.{length, set}
@@ -73,7 +73,7 @@ module _ (m : Model) (shape : Shape m) (v : Live m) (c : ℕ) (hc : c < CPUS) (o
       let w = next exit x l in
       let z = next_ends exit may x l q in
       let o = parked_leaver may x l q in
-      finish (parks w exit from) (core_rest w CPUS (some from) (displaced w.parked w.overwrites) w.block_events w.peak (next_core exit may x l q))
+      finish (parks w exit from) (core_rest w CPUS (Some from) (displaced w.parked w.overwrites) w.block_events w.peak (next_core exit may x l q))
       (record {
         awake = record { idles = z.awake.idles };
         parked = record { slot = o.slot; other = o.other; state = o.state; fits = o.fits; epoch = o.epoch };

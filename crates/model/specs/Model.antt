@@ -1,7 +1,6 @@
 -- The task table on paper: a list for each thing that a slot has, and for each CPU a queue, head first, with the task that
 -- runs there and the one that is idle there.
-use Rattle.std.specs.Prelude.{Bool, false, ◌&&◌, not, cond, List, [], ◌∷◌, ◌++◌, ℕ, ◌+◌, ◌-◌, ◌%◌, ◌^◌, min, max, get_or, set, replicate, eqb, ltb}
-use Rattle.std.proofs.Math.Option.{Option, none}
+use Rattle.std.specs.Prelude.{Bool, false, ◌&&◌, not, cond, List, [], ◌∷◌, ◌++◌, ℕ, ◌+◌, ◌-◌, ◌%◌, ◌^◌, min, max, get_or, set, replicate, eqb, ltb, Option, None}
 use Rattle.answers.specs.Sizes as sizes
 use Rattle.lists.specs.Tab.{tab}
 use Rattle.lists.specs.Search.{first_at, count_of, any_of}
@@ -179,7 +178,7 @@ fresh n =
       homes = replicate n 0;
       marks = replicate n false;
       cpus = replicate CPUS no_cpu;
-      parked = none;
+      parked = None;
       overwrites = 0;
       block_events = 0;
       peak = 0;

@@ -1,7 +1,6 @@
 -- What each call that makes or changes a task table answers, and what it leaves. Document 01, "Task table" and "Numbers a
 -- call can refuse with": 3 or 4 comes first, then what each call says.
-use Rattle.std.specs.Prelude.{Bool, true, false, ◌&&◌, not, cond, ℕ, length, eqb, ltb}
-use Rattle.std.proofs.Math.Option.{some, none}
+use Rattle.std.specs.Prelude.{Bool, true, false, ◌&&◌, not, cond, ℕ, length, eqb, ltb, Some, None}
 use Rattle.ids.specs.declared.TaskId.{TaskId}
 use Rattle.answers.specs.Reply.{done, told, named}
 use Rattle.answers.specs.Contract.{Step, refusing}
@@ -29,9 +28,9 @@ start_step m = cond (started m) (refusing 4 m) (record { reply = done; after = c
 unfoldable pub start_cpu_step : Model → ℕ → Step Model
 start_cpu_step m c =
     when_started m
-    (cond (started_on m c) (record { reply = named (some (idle_of m c)); after = m })
-    (cond (ltb (free_slot m) m.n) (record { reply = named (some (tenant m (free_slot m))); after = claimed m c (free_slot m) })
-    (record { reply = named none; after = m })))
+    (cond (started_on m c) (record { reply = named (Some (idle_of m c)); after = m })
+    (cond (ltb (free_slot m) m.n) (record { reply = named (Some (tenant m (free_slot m))); after = claimed m c (free_slot m) })
+    (record { reply = named None; after = m })))
 
 -- a new task in a slot: Ready, not stealeable, at the tail of its CPU's queue
 unfoldable pub admitted : Model → ℕ → ℕ → Model
@@ -41,8 +40,8 @@ unfoldable pub admit_step : Model → ℕ → Step Model
 admit_step m c =
     when_started m
     (cond (ltb c (length m.cpus) && ltb (free_slot m) m.n)
-    (record { reply = named (some (tenant m (free_slot m))); after = admitted m c (free_slot m) })
-    (record { reply = named none; after = m }))
+    (record { reply = named (Some (tenant m (free_slot m))); after = admitted m c (free_slot m) })
+    (record { reply = named None; after = m }))
 
 -- any known id but an idle
 unfoldable pub mark_step : Model → TaskId → Bool → Step Model
@@ -62,4 +61,4 @@ wake_step m id =
     (record { reply = told false; after = m }))
 
 unfoldable pub collect_step : Model → Step Model
-collect_step m = when_started m (record { reply = named m.parked; after = with_parked m none })
+collect_step m = when_started m (record { reply = named m.parked; after = with_parked m None })

@@ -1,6 +1,5 @@
 -- Stealing and switching. Document 01, "`switch_on`, in order" and "Stealing needs the thief's queue empty".
-use Rattle.std.specs.Prelude.{Bool, true, false, ◌&&◌, not, cond, List, [], ◌∷◌, ◌++◌, ℕ, suc, ◌+◌, ◌%◌, length, get_or, take, drop, ltb}
-use Rattle.std.proofs.Math.Option.{Option, some, none}
+use Rattle.std.specs.Prelude.{Bool, true, false, ◌&&◌, not, cond, List, [], ◌∷◌, ◌++◌, ℕ, suc, ◌+◌, ◌%◌, length, get_or, take, drop, ltb, Option, Some, None}
 use Rattle.lists.specs.Search.{first_at}
 use Rattle.ids.specs.declared.TaskId.{TaskId}
 use Rattle.ids.specs.Id.{same_id, idle}
@@ -84,20 +83,20 @@ enters m c x l = with_cpu (with_state m x.slot RUNNING) c (record { queue = l; c
 
 -- on an exit the leaver becomes parked; one that was parked is named, and counted
 abbrev pub released : Model → Kind → Option TaskId
-released m yield = none
-released m preempt = none
-released m block = none
+released m yield = None
+released m preempt = None
+released m block = None
 released m exit = m.parked
 
 abbrev pub displaced : Option TaskId → ℕ → ℕ
-displaced none k = k
-displaced (some p) k = capped k
+displaced None k = k
+displaced (Some p) k = capped k
 
 unfoldable pub parks : Model → Kind → TaskId → Model
 parks m yield id = m
 parks m preempt id = m
 parks m block id = m
-parks m exit id = rest_to m (some id) (displaced m.parked m.overwrites) m.block_events m.peak
+parks m exit id = rest_to m (Some id) (displaced m.parked m.overwrites) m.block_events m.peak
 
 -- the head runs, after `from` has left; where that is the same task it stays. No queue is empty here in a sound table.
 unfoldable pub chooses : Model → ℕ → Kind → TaskId → List TaskId → Step Model

@@ -1,5 +1,5 @@
-// The calls that change a task table, but stealing and switching, for callers that know the table to be sound. The arrays are lent
-// and changed where they lie; the small part goes in and comes back.
+// The calls that change a task table, but stealing and switching, for callers that know the table to be sound. It is lent, and changed
+// where it lies.
 #![tactic(auto)]
 
 ghost use Rattle.std.specs.Prelude.{◌≡◌, ◌<◌};
@@ -7,321 +7,146 @@ ghost use Rattle.answers.specs.Answers.{ack_reply, told_reply, named_reply};
 ghost use Rattle.model.specs.Model.{CPUS, tenant};
 ghost use Rattle.model.specs.Steps.{claimed, start_step, start_cpu_step, admit_step, mark_step, wake_step, collect_step};
 ghost use Rattle.memory.specs.View.{view, Rep, Sound};
-ghost use Rattle.memory.specs.Lent.{lent, was, left, DoesLent};
+ghost use Rattle.memory.specs.Lent.{lent, Stays, DoesLent};
 
-use answers::{Ack, Named, Refusal, Told};
+use answers::Refusal;
 use ids::TaskId;
-use memory::{LentAck, LentNamed, LentTold, Small};
-
-// The small part of a table, beside the task that a slot of it has become.
-#[derive(Clone, Copy)]
-struct Claimed {
-    small: Small,
-    id: TaskId,
-}
+use memory::TasksMut;
 
 // A slot becomes the idle task of a CPU, which is running already, so it is not queued.
-fn claim(
-    states: &mut [u8; 64],
-    epochs: &mut [u16; 64],
-    homes: &mut [u8; 64],
-    marks: &mut [u8; 64],
-    ring_slots: &mut [u16; 128],
-    ring_epochs: &mut [u16; 128],
-    mut s: Small,
-    cpu: u8,
-    i: usize,
-) -> Claimed
-    requires rep { Rep (lent states epochs homes marks ring_slots ring_epochs s) }
+fn claim(t: &mut TasksMut, cpu: u8, i: usize) -> TaskId
+    requires rep { Rep (lent t.old) }
     requires cpu_bound { cpu < CPUS }
-    requires i_lt_n { i < s.n }
-    ensures { Rep (left states epochs homes marks ring_slots ring_epochs result.small) × (view (left states epochs homes marks ring_slots ring_epochs result.small) ≡ claimed (view (was states epochs homes marks ring_slots ring_epochs s)) cpu i) × (result.id ≡ tenant (view (was states epochs homes marks ring_slots ring_epochs s)) i) }
+    requires i_lt_n { i < t.old.small.now.n }
+    ensures { Stays t.old t.new × Rep (lent t.new) × (view (lent t.new) ≡ claimed (view (lent t.old)) cpu i) × (result ≡ tenant (view (lent t.old)) i) }
 {
-    let n = s.n;
     let c = cpu as usize;
     let id = TaskId {
         slot: i as u16,
-        epoch: epochs[i],
+        epoch: t.epochs[i],
     };
-    states[i] = memory::RUNNING;
-    homes[i] = cpu;
-    marks[i] = 0; // an idle is never stolen
-    s.currents[c] = id;
-    s.idles[c] = id;
-    let live = scans::occupied(states, n);
-    s.peak = scans::larger(s.peak, live);
-    Claimed { small: s, id: id }
+    t.states[i] = memory::RUNNING;
+    t.homes[i] = cpu;
+    t.marks[i] = 0; // an idle is never stolen
+    t.small.currents[c] = id;
+    t.small.idles[c] = id;
+    t.small.peak = scans::peak_with(t.states, t.small.n, t.small.peak);
+    id
 }
 
 // Slot 0 becomes the idle task of CPU 0.
-pub fn start_in(
-    states: &mut [u8; 64],
-    epochs: &mut [u16; 64],
-    homes: &mut [u8; 64],
-    marks: &mut [u8; 64],
-    ring_slots: &mut [u16; 128],
-    ring_epochs: &mut [u16; 128],
-    s: Small,
-) -> LentAck
-    requires { Sound (lent states epochs homes marks ring_slots ring_epochs s) }
-    ensures { DoesLent states epochs homes marks ring_slots ring_epochs s result.small (ack_reply result.answer) start_step }
+pub fn start_in(t: &mut TasksMut) -> Result<(), Refusal>
+    requires { Sound (lent t.old) }
+    ensures { DoesLent t.old t.new (ack_reply result) start_step }
 {
-    if states[0] != memory::EMPTY {
-        return LentAck {
-            small: s,
-            answer: Ack::Refused(Refusal::Again),
-        };
+    if t.states[0] != memory::EMPTY {
+        return Err(Refusal::Again);
     }
-    let r = claim(
-        states,
-        epochs,
-        homes,
-        marks,
-        ring_slots,
-        ring_epochs,
-        s,
-        0,
-        0,
-    );
-    let u = r.small;
-    LentAck {
-        small: u,
-        answer: Ack::Done,
-    }
+    claim(t, 0, 0);
+    Ok(())
 }
 
 // The lowest free slot becomes the idle task of another CPU.
-pub fn start_cpu_in(
-    states: &mut [u8; 64],
-    epochs: &mut [u16; 64],
-    homes: &mut [u8; 64],
-    marks: &mut [u8; 64],
-    ring_slots: &mut [u16; 128],
-    ring_epochs: &mut [u16; 128],
-    s: Small,
-    cpu: u8,
-) -> LentNamed
-    requires sound { Sound (lent states epochs homes marks ring_slots ring_epochs s) }
+pub fn start_cpu_in(t: &mut TasksMut, cpu: u8) -> Result<Option<TaskId>, Refusal>
+    requires sound { Sound (lent t.old) }
     requires cpu_nonzero { 0 < cpu }
     requires cpu_bound { cpu < CPUS }
-    ensures { DoesLent states epochs homes marks ring_slots ring_epochs s result.small (named_reply result.answer) (λ m. start_cpu_step m cpu) }
+    ensures { DoesLent t.old t.new (named_reply result) (λ m. start_cpu_step m cpu) }
 {
-    if states[0] == memory::EMPTY {
-        return LentNamed {
-            small: s,
-            answer: Named::Refused(Refusal::NotStarted),
-        };
+    if t.states[0] == memory::EMPTY {
+        return Err(Refusal::NotStarted);
     }
-    let c = cpu as usize;
-    let idle = s.idles[c];
-    if !idle.same(TaskId::IDLE) {
-        return LentNamed {
-            small: s,
-            answer: Named::Id(idle),
-        };
+    let idle = t.small.idles[cpu as usize];
+    if idle != TaskId::IDLE {
+        return Ok(Some(idle));
     }
-    let n = s.n;
-    let at = s.parked_id.slot as usize;
-    let i = scans::free_slot(states, n, s.parked, at);
-    if n <= i {
-        return LentNamed {
-            small: s,
-            answer: Named::Nothing,
-        };
-    }
-    let r = claim(
-        states,
-        epochs,
-        homes,
-        marks,
-        ring_slots,
-        ring_epochs,
-        s,
-        cpu,
-        i,
-    );
-    let u = r.small;
-    let id = r.id;
-    LentNamed {
-        small: u,
-        answer: Named::Id(id),
-    }
+    let at = t.small.parked_id.slot as usize;
+    let Some(i) = scans::free_slot(t.states, t.small.n, t.small.parked, at) else {
+        return Ok(None);
+    };
+    Ok(Some(claim(t, cpu, i)))
 }
 
 // A new task, Ready at the tail of a CPU's queue.
-pub fn admit_on_in(
-    states: &mut [u8; 64],
-    epochs: &mut [u16; 64],
-    homes: &mut [u8; 64],
-    marks: &mut [u8; 64],
-    ring_slots: &mut [u16; 128],
-    ring_epochs: &mut [u16; 128],
-    mut s: Small,
-    cpu: u8,
-) -> LentNamed
-    requires { Sound (lent states epochs homes marks ring_slots ring_epochs s) }
-    ensures { DoesLent states epochs homes marks ring_slots ring_epochs s result.small (named_reply result.answer) (λ m. admit_step m cpu) }
+pub fn admit_on_in(t: &mut TasksMut, cpu: u8) -> Result<Option<TaskId>, Refusal>
+    requires { Sound (lent t.old) }
+    ensures { DoesLent t.old t.new (named_reply result) (λ m. admit_step m cpu) }
 {
-    if states[0] == memory::EMPTY {
-        return LentNamed {
-            small: s,
-            answer: Named::Refused(Refusal::NotStarted),
-        };
+    if t.states[0] == memory::EMPTY {
+        return Err(Refusal::NotStarted);
     }
     let c = cpu as usize;
     if memory::CPUS <= c {
-        return LentNamed {
-            small: s,
-            answer: Named::Nothing,
-        };
+        return Ok(None);
     }
-    let n = s.n;
-    let at = s.parked_id.slot as usize;
-    let i = scans::free_slot(states, n, s.parked, at);
-    if n <= i {
-        return LentNamed {
-            small: s,
-            answer: Named::Nothing,
-        };
-    }
+    let n = t.small.n;
+    let at = t.small.parked_id.slot as usize;
+    let Some(i) = scans::free_slot(t.states, n, t.small.parked, at) else {
+        return Ok(None);
+    };
     let id = TaskId {
         slot: i as u16,
-        epoch: epochs[i],
+        epoch: t.epochs[i],
     };
-    let len = s.lens[c];
-    let to = memory::spot(c, n, s.heads[c] + len);
-    states[i] = memory::READY;
-    homes[i] = cpu;
-    marks[i] = 0;
-    ring_slots[to] = id.slot;
-    ring_epochs[to] = id.epoch;
-    s.lens[c] = len + 1;
-    let live = scans::occupied(states, n);
-    s.peak = scans::larger(s.peak, live);
-    LentNamed {
-        small: s,
-        answer: Named::Id(id),
-    }
+    let to = memory::spot(c, n, t.small.heads[c] + t.small.lens[c]);
+    t.states[i] = memory::READY;
+    t.homes[i] = cpu;
+    t.marks[i] = 0;
+    t.ring_slots[to] = id.slot;
+    t.ring_epochs[to] = id.epoch;
+    t.small.lens[c] += 1;
+    t.small.peak = scans::peak_with(t.states, n, t.small.peak);
+    Ok(Some(id))
 }
 
 // Whether other CPUs may steal the task.
-pub fn set_stealeable_in(
-    states: &mut [u8; 64],
-    epochs: &mut [u16; 64],
-    homes: &mut [u8; 64],
-    marks: &mut [u8; 64],
-    ring_slots: &mut [u16; 128],
-    ring_epochs: &mut [u16; 128],
-    s: Small,
-    id: TaskId,
-    mark: bool,
-) -> LentTold
-    requires { Sound (lent states epochs homes marks ring_slots ring_epochs s) }
-    ensures { DoesLent states epochs homes marks ring_slots ring_epochs s result.small (told_reply result.answer) (λ m. mark_step m id mark) }
+pub fn set_stealeable_in(t: &mut TasksMut, id: TaskId, mark: bool) -> Result<bool, Refusal>
+    requires { Sound (lent t.old) }
+    ensures { DoesLent t.old t.new (told_reply result) (λ m. mark_step m id mark) }
 {
-    if states[0] == memory::EMPTY {
-        return LentTold {
-            small: s,
-            answer: Told::Refused(Refusal::NotStarted),
-        };
+    if t.states[0] == memory::EMPTY {
+        return Err(Refusal::NotStarted);
     }
-    if !scans::known(epochs, s.n, id) {
-        return LentTold {
-            small: s,
-            answer: Told::Is(false),
-        };
+    if !scans::known(t.epochs, t.small.n, id) || scans::is_idle(t.small.idles, id) {
+        return Ok(false);
     }
-    let idles = s.idles;
-    if scans::is_idle(idles, id) {
-        return LentTold {
-            small: s,
-            answer: Told::Is(false),
-        };
-    }
-    let i = id.slot as usize;
-    marks[i] = memory::flag(mark);
-    LentTold {
-        small: s,
-        answer: Told::Is(true),
-    }
+    t.marks[id.slot as usize] = memory::flag(mark);
+    Ok(true)
 }
 
 // A Blocked task is Ready again, at the tail at its home.
-pub fn wake_in(
-    states: &mut [u8; 64],
-    epochs: &mut [u16; 64],
-    homes: &mut [u8; 64],
-    marks: &mut [u8; 64],
-    ring_slots: &mut [u16; 128],
-    ring_epochs: &mut [u16; 128],
-    mut s: Small,
-    id: TaskId,
-) -> LentTold
-    requires { Sound (lent states epochs homes marks ring_slots ring_epochs s) }
-    ensures { DoesLent states epochs homes marks ring_slots ring_epochs s result.small (told_reply result.answer) (λ m. wake_step m id) }
+pub fn wake_in(t: &mut TasksMut, id: TaskId) -> Result<bool, Refusal>
+    requires { Sound (lent t.old) }
+    ensures { DoesLent t.old t.new (told_reply result) (λ m. wake_step m id) }
 {
-    if states[0] == memory::EMPTY {
-        return LentTold {
-            small: s,
-            answer: Told::Refused(Refusal::NotStarted),
-        };
+    if t.states[0] == memory::EMPTY {
+        return Err(Refusal::NotStarted);
     }
-    let n = s.n;
-    if !scans::known(epochs, n, id) {
-        return LentTold {
-            small: s,
-            answer: Told::Is(false),
-        };
-    }
+    let n = t.small.n;
     let i = id.slot as usize;
-    if states[i] != memory::BLOCKED {
-        return LentTold {
-            small: s,
-            answer: Told::Is(false),
-        };
+    if !scans::known(t.epochs, n, id) || t.states[i] != memory::BLOCKED {
+        return Ok(false);
     }
-    let c = homes[i] as usize;
-    let len = s.lens[c];
-    let to = memory::spot(c, n, s.heads[c] + len);
-    states[i] = memory::READY;
-    ring_slots[to] = id.slot;
-    ring_epochs[to] = id.epoch;
-    s.lens[c] = len + 1;
-    LentTold {
-        small: s,
-        answer: Told::Is(true),
-    }
+    let c = t.homes[i] as usize;
+    let to = memory::spot(c, n, t.small.heads[c] + t.small.lens[c]);
+    t.states[i] = memory::READY;
+    t.ring_slots[to] = id.slot;
+    t.ring_epochs[to] = id.epoch;
+    t.small.lens[c] += 1;
+    Ok(true)
 }
 
 // Takes the parked id, whose stack the caller may now free.
-pub fn collect_in(
-    states: &mut [u8; 64],
-    epochs: &mut [u16; 64],
-    homes: &mut [u8; 64],
-    marks: &mut [u8; 64],
-    ring_slots: &mut [u16; 128],
-    ring_epochs: &mut [u16; 128],
-    mut s: Small,
-) -> LentNamed
-    requires { Sound (lent states epochs homes marks ring_slots ring_epochs s) }
-    ensures { DoesLent states epochs homes marks ring_slots ring_epochs s result.small (named_reply result.answer) collect_step }
+pub fn collect_in(t: &mut TasksMut) -> Result<Option<TaskId>, Refusal>
+    requires { Sound (lent t.old) }
+    ensures { DoesLent t.old t.new (named_reply result) collect_step }
 {
-    if states[0] == memory::EMPTY {
-        return LentNamed {
-            small: s,
-            answer: Named::Refused(Refusal::NotStarted),
-        };
+    if t.states[0] == memory::EMPTY {
+        return Err(Refusal::NotStarted);
     }
-    if s.parked == 0 {
-        return LentNamed {
-            small: s,
-            answer: Named::Nothing,
-        };
+    if t.small.parked == 0 {
+        return Ok(None);
     }
-    let id = s.parked_id;
-    s.parked = 0;
-    LentNamed {
-        small: s,
-        answer: Named::Id(id),
-    }
+    t.small.parked = 0;
+    Ok(Some(t.small.parked_id))
 }

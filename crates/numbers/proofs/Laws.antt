@@ -1,6 +1,6 @@
 -- Numbers that name nothing, and how an answer is known to have crossed.
+use Rattle.std.specs.Prelude.{None}
 use mathlib.Core.Path.{◌≡◌}
-use mathlib.Core.Option.{none}
 use Prim.Native.Nat.{ℕ}
 use native.Mathlib.Omega.{arith}
 use borrow.Author.Tests.{ne_eqb, le-ltb}
@@ -9,13 +9,13 @@ use Rattle.numbers.specs.declared.Answer.{Answer}
 use Rattle.numbers.specs.Numbers.{numbers_of, Crossed}
 use Rattle.numbers.specs.Operands.{kind_named, flag_named, state_named}
 
-pub no_kind : (n : ℕ) → (n ≡ 0 → ⊥) → (n ≡ 1 → ⊥) → (n ≡ 2 → ⊥) → (n ≡ 3 → ⊥) → none ≡ kind_named n
+pub no_kind : (n : ℕ) → (n ≡ 0 → ⊥) → (n ≡ 1 → ⊥) → (n ≡ 2 → ⊥) → (n ≡ 3 → ⊥) → None ≡ kind_named n
 no_kind n a b c d = rw (ne_eqb n 0 a, ne_eqb n 1 b, ne_eqb n 2 c, ne_eqb n 3 d)
 
-pub no_flag : (n : ℕ) → (n ≡ 0 → ⊥) → (n ≡ 1 → ⊥) → none ≡ flag_named n
+pub no_flag : (n : ℕ) → (n ≡ 0 → ⊥) → (n ≡ 1 → ⊥) → None ≡ flag_named n
 no_flag n a b = rw (ne_eqb n 0 a, ne_eqb n 1 b)
 
-pub no_state : (n : ℕ) → (n ≡ 0 → ⊥) → (n ≡ 1 → ⊥) → (n ≡ 2 → ⊥) → (n ≡ 3 → ⊥) → none ≡ state_named n
+pub no_state : (n : ℕ) → (n ≡ 0 → ⊥) → (n ≡ 1 → ⊥) → (n ≡ 2 → ⊥) → (n ≡ 3 → ⊥) → None ≡ state_named n
 no_state n a b c d = rw (le-ltb n 4 (omega arith))
 
 -- what the wrapped call ensures of its reply, and the conversion of the answer that it is

@@ -1,8 +1,8 @@
 -- Nothing is lost on the way over the boundary, and any two outcomes that an export's contract admits coincide, as those of the
 -- call that it wraps do.
+use Rattle.std.specs.Prelude.{Option, Some, None}
 use mathlib.Core.Path.{◌≡◌, refl, sym, ◌∙◌, ap}
 use mathlib.Core.Bool.{true, false}
-use mathlib.Core.Option.{Option, some, none}
 use borrow.Author.Tests.{ne_eqb}
 use Rattle.answers.specs.Reply.{Reply, refused, done, told, number, named, value, stays, switched, Refused}
 use Rattle.answers.specs.Contract.{Kind, Step, Makes, MakesAt, Meets}
@@ -20,13 +20,13 @@ read_back done f = refl
 read_back (told true) f = refl
 read_back (told false) f = refl
 read_back (number n) f = refl
-read_back (named none) f = refl
-read_back (named (some i)) f = refl
-read_back (value none) f = refl
-read_back (value (some v)) f = refl
+read_back (named None) f = refl
+read_back (named (Some i)) f = refl
+read_back (value None) f = refl
+read_back (value (Some v)) f = refl
 read_back stays f = refl
-read_back (switched from to none) f = refl
-read_back (switched from to (some i)) f = refl
+read_back (switched from to None) f = refl
+read_back (switched from to (Some i)) f = refl
 
 -- two outcomes of an export: the answers are one, the tables are equal as document 01 compares them, and on a refusal they are one
 pub record SameExport (k : Kind) (u v : k.Memory) (a b : Answer) : Type 0 where
@@ -60,8 +60,8 @@ module _ (a b : Answer) (k : Kind) where
 
   -- one whose operand crossed as a number
   pub export_named_once : {A : Type 0} (t u v : k.Memory) (step : A → Step k.Plain) (asked : Option A) → Crossed a (λ got. MeetsNamed k t u got step asked) → Crossed b (λ got. MeetsNamed k t v got step asked) → SameExport k u v a b
-  export_named_once t u v step (some c) x y = export_once t u v (step c) x y
-  export_named_once t u v step none x y =
+  export_named_once t u v step (Some c) x y = export_once t u v (step c) x y
+  export_named_once t u v step None x y =
       let e : u ≡ v = x.holds.1 ∙ sym y.holds.1 in
       same_export u v x.reply y.reply x.numbers y.numbers (record { reply = x.holds.0 ∙ sym y.holds.0; after = ap k.view e; whole = λ _. e })
 

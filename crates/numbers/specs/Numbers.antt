@@ -1,7 +1,6 @@
 -- An answer as it crosses the C boundary, where no enum can: document 01's number first, 0 for none, and then which kind of
 -- answer it is and its values. What a kind does not use is 0; a flag is a byte, 0 or 1.
-use Rattle.std.specs.Prelude.{◌≡◌, ℕ}
-use Rattle.std.proofs.Math.Option.{Option, some, none}
+use Rattle.std.specs.Prelude.{◌≡◌, ℕ, Option, Some, None}
 use Rattle.lists.specs.Search.{one_if}
 use Rattle.lists.specs.Entries.{is_there}
 use Rattle.ids.specs.declared.TaskId.{TaskId}
@@ -10,12 +9,12 @@ use Rattle.answers.specs.Reply.{Reply, refused, done, told, number, named, value
 use Rattle.numbers.specs.declared.Answer.{Answer}
 
 abbrev pub id_or : Option TaskId → TaskId
-id_or none = idle
-id_or (some i) = i
+id_or None = idle
+id_or (Some i) = i
 
 abbrev pub number_or : Option ℕ → ℕ
-number_or none = 0
-number_or (some v) = v
+number_or None = 0
+number_or (Some v) = v
 
 abbrev pub numbers_of : Reply → Answer
 numbers_of (refused n) = record { refusal = n; kind = 0; flag = 0; number = 0; first = idle; second = idle; third = idle }

@@ -13,7 +13,7 @@ use Rattle.text.specs.Print.{put, Wrote}
 use Rattle.lines.specs.Asked.{Asked}
 use Rattle.print.specs.Texts.{line_text}
 use Rattle.output.specs.Output.{plays, printed, run}
-use Rattle.output.specs.Places.{to_write, Next, Filled}
+use Rattle.output.specs.Places.{to_write, Next, Plays, Filled}
 
 -- from the tables t₀ at index at₀ with n₀ lines behind, with nothing of the buffer used, to the tables t at index at
 pub record Loop (input : List ℕ) (t₀ : Memory) (n₀ at₀ size : ℕ) (out : List ℕ) (t : Memory) (n at used : ℕ) : Type 0 where
@@ -39,17 +39,17 @@ wrote_take o p t at r w =
 
 module _ (input : List ℕ) (t₀ : Memory) (n₀ at₀ size : ℕ) (out : List ℕ) (t : Memory) (n at used : ℕ) (l : Loop input t₀ n₀ at₀ size out t n at used) where
   -- a line that asks for `asked` is read, run and answered
-  pub turn : (asked : Asked) (r : ℕ) (u : Memory) (out' : List ℕ) (used' : ℕ) → Next input at asked r → AllSound u → view u ≡ printed (plays (view t) asked).after
-      → Wrote out used (line_text (n + 1) (plays (view t) asked).reply (plays (view t) asked).after.out) used' out' → Loop input t₀ n₀ at₀ size out' u (n + 1) r used'
+  pub turn : (asked : Asked) (r : ℕ) (u : Memory) (out' : List ℕ) (used' : ℕ) → Next input at asked r → Plays t asked u (n + 1) out used used' out' → Loop input t₀ n₀ at₀ size out' u (n + 1) r used'
   unfolding run
-  turn asked r u out' used' x s v w =
+  turn asked r u out' used' x p =
+      let w = p.said in
       let said = line_text (n + 1) (plays (view t) asked).reply (plays (view t) asked).after.out in
       let one : to_write input t n at ≡ said ++ to_write input u (n + 1) r =
       ap (run (view t) n) x.first
       ∙ ap (λ a. line_text (n + 1) (plays (view t) a).reply (plays (view t) a).after.out ++ run (printed (plays (view t) a).after) (n + 1) (lines (drop r input))) (sym x.asks)
-      ∙ ap (λ p. said ++ run p (n + 1) (lines (drop r input))) (sym v) in
+      ∙ ap (λ q. said ++ run q (n + 1) (lines (drop r input))) (sym p.after) in
       record {
-        sound = s;
+        sound = p.sound;
         within = x.within;
         counted = omega (arith, l.counted, x.more);
         room = omega (arith, w.fits, w.size);

@@ -1,12 +1,12 @@
 -- The steps, case by case: where a task's deadline goes, and which of its two outcomes a step has.
+use Rattle.std.specs.Prelude.{Some}
 use mathlib.Core.Path.{◌≡◌}
 use mathlib.Core.List.{List, ◌++◌}
-use mathlib.Core.Option.{some}
 use Prim.Native.Nat.{ℕ, ◌<◌, ◌≤◌}
 use lib.ListN.{length, set, drop}
 use borrow.Author.Tests.{lt-ltb, le-ltb, le-leb, lt-leb}
 use Rattle.lists.specs.Search.{first_at}
-use Rattle.lists.specs.Entries.{taken, lowest_free, freed}
+use Rattle.lists.specs.Entries.{taken, freed}
 use Rattle.ids.specs.declared.TaskId.{TaskId}
 use Rattle.answers.specs.Reply.{done, number}
 use Rattle.answers.specs.Contract.{refusing}
@@ -19,14 +19,9 @@ module _ (ds : Deadlines) (id : TaskId) where
   unfolding place_for
   place_armed i e h = rw (← e, lt-ltb i (length ds) h)
 
-  -- another goes to the lowest free one
-  pub place-new : (i j : ℕ) → i ≡ first_at (taken (is_for id)) ds → length ds ≤ i → j ≡ lowest_free ds → j ≡ place_for id ds
-  unfolding place_for
-  place-new i j e h f = rw (← e, le-ltb i (length ds) h) f
-
   module _ (at : ℕ) where
     pub arm_stores : place_for id ds < length ds
-        → arm_step ds id at ≡ record { reply = done; after = set ds (place_for id ds) (some (record { id = id; at = at })) }
+        → arm_step ds id at ≡ record { reply = done; after = set ds (place_for id ds) (Some (record { id = id; at = at })) }
     unfolding arm_step
     arm_stores h = rw (lt-ltb (place_for id ds) (length ds) h)
 

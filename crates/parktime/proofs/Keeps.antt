@@ -1,9 +1,9 @@
 -- Every call keeps the deadlines sound, on paper: sixteen places, and no task with two deadlines.
+use Rattle.std.specs.Prelude.{Option, Some, None}
 use mathlib.Core.Path.{◌≡◌, refl, ◌∙◌}
 use mathlib.Core.Bool.{Bool, true}
 use mathlib.Core.Logic.{⊎_elim}
 use mathlib.Core.List.{List}
-use mathlib.Core.Option.{Option, some, none}
 use Prim.Native.Nat.{ℕ, ◌<◌, ◌≤◌}
 use native.Mathlib.Omega.{arith}
 use lib.ListN.{length, get_or, length-set, length-replicate}
@@ -20,25 +20,25 @@ use Rattle.parktime.specs.Calls.{Call, arm, disarm, poll, step}
 use Rattle.parktime.proofs.Cases.{place_armed, arm_stores, arm-refuses, poll_writes, poll-refuses}
 
 -- an entry is like d where it is for d's task, whichever of the two comes first
-pub alike-some : (d : Deadline) (e : Option Deadline) → alike same_task (some d) e ≡ taken (is_for d.id) e
-alike-some d none = refl
-alike-some d (some x) = refl
+pub alike-some : (d : Deadline) (e : Option Deadline) → alike same_task (Some d) e ≡ taken (is_for d.id) e
+alike-some d None = refl
+alike-some d (Some x) = refl
 
-alike_for : (e : Option Deadline) (d : Deadline) → alike same_task e (some d) ≡ true → taken (is_for d.id) e ≡ true
-alike_for none d h = absurd (not_both h refl)
-alike_for (some x) d h = rw (same_eq d.id x.id h) (same_self x.id)
+alike_for : (e : Option Deadline) (d : Deadline) → alike same_task e (Some d) ≡ true → taken (is_for d.id) e ≡ true
+alike_for None d h = absurd (not_both h refl)
+alike_for (Some x) d h = rw (same_eq d.id x.id h) (same_self x.id)
 
 -- two entries for one task are alike
 for_alike : (e f : Option Deadline) (id : TaskId) → taken (is_for id) e ≡ true → taken (is_for id) f ≡ true → alike same_task e f ≡ true
-for_alike none f id h k = absurd (not_both h refl)
-for_alike (some x) f id h k = alike-some x f ∙ rw (same_eq x.id id h) k
+for_alike None f id h k = absurd (not_both h refl)
+for_alike (Some x) f id h k = alike-some x f ∙ rw (same_eq x.id id h) k
 
 pub new_keeps : SoundDeadlines new_step.after
-new_keeps = record { places = length-replicate {A = Option Deadline} PLACES none; ids = distinct_fresh same_task PLACES }
+new_keeps = record { places = length-replicate {A = Option Deadline} PLACES None; ids = distinct_fresh same_task PLACES }
 
 module _ (ds : Deadlines) (s : SoundDeadlines ds) where
   -- no place but its own is a task's
-  lone : (id : TaskId) (i : ℕ) → i < length ds → (i ≡ place_for id ds → ⊥) → taken (is_for id) (get_or ds i none) ≡ true → ⊥
+  lone : (id : TaskId) (i : ℕ) → i < length ds → (i ≡ place_for id ds → ⊥) → taken (is_for id) (get_or ds i None) ≡ true → ⊥
   lone id i il ne h = go (first_at (taken (is_for id)) ds) refl
     where
       go : (k : ℕ) → k ≡ first_at (taken (is_for id)) ds → ⊥
@@ -46,12 +46,12 @@ module _ (ds : Deadlines) (s : SoundDeadlines ds) where
           ⊎_elim
           (λ (l : k < length ds).
           let at = place_armed ds id k e l in
-          let is : taken (is_for id) (get_or ds k none) ≡ true = rw e (first_is (taken (is_for id)) ds none (omega arith)) in
+          let is : taken (is_for id) (get_or ds k None) ≡ true = rw e (first_is (taken (is_for id)) ds None (omega arith)) in
           ⊎_elim
-          (λ (b : i < k). alike_found same_task ds i k b l (for_alike (get_or ds i none) (get_or ds k none) id h is) s.ids)
-          (λ (g : k ≤ i). alike_found same_task ds k i (omega arith) il (for_alike (get_or ds k none) (get_or ds i none) id is h) s.ids)
+          (λ (b : i < k). alike_found same_task ds i k b l (for_alike (get_or ds i None) (get_or ds k None) id h is) s.ids)
+          (λ (g : k ≤ i). alike_found same_task ds k i (omega arith) il (for_alike (get_or ds k None) (get_or ds i None) id is h) s.ids)
           (lt_or_ge i k))
-          (λ (g : length ds ≤ k). not_both h (first-none (taken (is_for id)) ds none (omega arith) i il))
+          (λ (g : length ds ≤ k). not_both h (first-none (taken (is_for id)) ds None (omega arith) i il))
           (lt_or_ge k (length ds))
 
   pub arm_keeps : (id : TaskId) (at : ℕ) → SoundDeadlines (arm_step ds id at).after
@@ -60,9 +60,9 @@ module _ (ds : Deadlines) (s : SoundDeadlines ds) where
       (λ (l : place_for id ds < length ds).
       rw (arm_stores ds id at l)
       (record {
-        places = length-set ds (place_for id ds) (some (record { id = id; at = at })) ∙ s.places;
+        places = length-set ds (place_for id ds) (Some (record { id = id; at = at })) ∙ s.places;
         ids = distinct_put same_task ds (place_for id ds) (record { id = id; at = at }) s.ids
-            (λ i il ne. (λ h. lone id i il ne (alike_for (get_or ds i none) (record { id = id; at = at }) h), λ h. lone id i il ne (rw alike-some at h)));
+            (λ i il ne. (λ h. lone id i il ne (alike_for (get_or ds i None) (record { id = id; at = at }) h), λ h. lone id i il ne (rw alike-some at h)));
       }))
       (λ (g : length ds ≤ place_for id ds). rw (arm-refuses ds id at g) s)
       (lt_or_ge (place_for id ds) (length ds))

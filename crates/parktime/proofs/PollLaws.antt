@@ -1,8 +1,8 @@
 -- The scan of `poll_in`: the deadlines that have come are freed, and their raw ids stand at the start of the output.
+use Rattle.std.specs.Prelude.{Option, Some, None}
 use mathlib.Core.Path.{◌≡◌, sym, ◌∙◌, ap}
 use mathlib.Core.Bool.{true, false}
 use mathlib.Core.List.{List, [], ◌∷◌, ◌++◌, map-append, append_assoc, append-nil}
-use mathlib.Core.Option.{Option, some, none}
 use Prim.Native.Nat.{ℕ, suc, ◌+◌, ◌<◌, ◌≤◌}
 use native.Mathlib.Numerals.{add-one}
 use native.Mathlib.Omega.{arith}
@@ -30,7 +30,7 @@ module _ (now : ℕ) where
   unfolding due_ids
   ids-append ds es = rw (taken-append, map-append)
 
-  ids_hit : (d : Deadline) → due now d ≡ true → due_ids now (some d ∷ []) ≡ d.id ∷ []
+  ids_hit : (d : Deadline) → due now d ≡ true → due_ids now (Some d ∷ []) ≡ d.id ∷ []
   unfolding due_ids
   ids_hit d h = rw (taken_hit (due now) d h)
 
@@ -60,7 +60,7 @@ module _ (now : ℕ) (out₀ : List ℕ) where
       polling_pass h =
           let at = here (due now) ds i u s.table more in
           let same : due_ids now (take (suc i) ds) ≡ due_ids now (take i ds) =
-          rw (take-suc ds i none, ids-append, ids_pass now (get_or ds i none) (rw at at h), append-nil)
+          rw (take-suc ds i None, ids-append, ids_pass now (get_or ds i None) (rw at at h), append-nil)
           in
           record {
             table = leaves (due now) ds i u s.table more h;
@@ -76,7 +76,7 @@ module _ (now : ℕ) (out₀ : List ℕ) where
           let at = here (due now) ds i u s.table more in
           let is = taken-held (get_or u.entries i empty) (due now) h in
           let one : due_ids now (take (suc i) ds) ≡ due_ids now (take i ds) ++ ((get_or u.entries i empty).task ∷ []) =
-          rw (take-suc ds i none, ids-append, ← at, is.0, ids_hit now (held (get_or u.entries i empty)) is.1)
+          rw (take-suc ds i None, ids-append, ← at, is.0, ids_hit now (held (get_or u.entries i empty)) is.1)
           in
           let size : length (raws (due_ids now (take i ds))) ≡ k = length-map (due_ids now (take i ds)) packed ∙ sym s.count in
           record {

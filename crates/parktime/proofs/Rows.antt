@@ -1,8 +1,8 @@
--- Calls on the deadlines that compute: a row for each of document 01's rules on arming and polling. A10 stands with the bench
--- sheet in the crate `runs`.
+-- Calls on the deadlines that compute: a row for each rule on arming and polling. The bench sheet's row on deadlines stands in
+-- the crate `runs`.
+use Rattle.std.specs.Prelude.{Some, None}
 use mathlib.Core.Path.{◌≡◌, refl}
 use mathlib.Core.List.{List, [], ◌∷◌}
-use mathlib.Core.Option.{some, none}
 use Prim.Native.Nat.{ℕ, suc}
 use lib.ListN.{replicate}
 use Rattle.lists.specs.Search.{first_at}
@@ -24,7 +24,7 @@ output = replicate PLACES 0
 
 -- the tenants of slots 1 to 16, armed for 50
 abbrev sixteen : Deadlines
-sixteen = tab PLACES (λ k. some (record { id = tenant (suc k); at = 50 }))
+sixteen = tab PLACES (λ k. Some (record { id = tenant (suc k); at = 50 }))
 
 -- sixteen tasks, armed one after the other, stand in that order
 pub filled : left step fresh (tab PLACES (λ k. arm (tenant (suc k)) 50)) ≡ sixteen
@@ -53,16 +53,16 @@ back = refl
 
 -- the lowest free place is taken again, and to disarm a task that is not armed changes nothing
 pub reused : left step fresh (arm (tenant 1) 10 ∷ arm (tenant 2) 20 ∷ disarm (tenant 1) ∷ disarm (tenant 9) ∷ arm (tenant 3) 30 ∷ [])
-    ≡ some (record { id = tenant 3; at = 30 }) ∷ some (record { id = tenant 2; at = 20 }) ∷ replicate 14 none
+    ≡ Some (record { id = tenant 3; at = 30 }) ∷ Some (record { id = tenant 2; at = 20 }) ∷ replicate 14 None
 unfolding left step arm_step place_for first_at disarm_step freed
 reused = refl
 
 -- the raw ids stand in entry order from place 0 on, the later places of the output are as they were, and a deadline
 -- that has not come stays in its place
-pub written : poll_step (some (record { id = record { slot = 3; epoch = 2 }; at = 100 }) ∷ none ∷ some (record { id = tenant 8; at = 101 }) ∷ some (record { id = tenant 5; at = 7 }) ∷ replicate 12 none, replicate 17 9) 100
+pub written : poll_step (Some (record { id = record { slot = 3; epoch = 2 }; at = 100 }) ∷ None ∷ Some (record { id = tenant 8; at = 101 }) ∷ Some (record { id = tenant 5; at = 7 }) ∷ replicate 12 None, replicate 17 9) 100
     ≡ record {
       reply = number 2;
-      after = (none ∷ none ∷ some (record { id = tenant 8; at = 101 }) ∷ none ∷ replicate 12 none, 131075 ∷ 5 ∷ replicate 15 9);
+      after = (None ∷ None ∷ Some (record { id = tenant 8; at = 101 }) ∷ None ∷ replicate 12 None, 131075 ∷ 5 ∷ replicate 15 9);
     }
 unfolding poll_step due_ids taken_by freed
 written = refl

@@ -1,6 +1,5 @@
 -- The deadlines in memory and on paper: sixteen places, each free or with the deadline of a task.
-use Rattle.std.specs.Prelude.{◌≡◌, Bool, cond, List, map, ℕ, ◌<◌, length, leb}
-use Rattle.std.proofs.Math.Option.{Option, some, none}
+use Rattle.std.specs.Prelude.{◌≡◌, Bool, cond, List, map, ℕ, ◌<◌, length, leb, Option, Some, None}
 use Rattle.lists.specs.Flags.{FLAGS, is_set}
 use Rattle.lists.specs.Each.{Each}
 use Rattle.lists.specs.Entries.{Distinct}
@@ -23,7 +22,7 @@ Deadlines = List (Option Deadline)
 
 -- what an entry in memory is on paper: one that is not live holds nothing
 abbrev pub deadline_of : Entry → Option Deadline
-deadline_of e = cond (is_set e.live) (some (record { id = e.task; at = e.deadline })) none
+deadline_of e = cond (is_set e.live) (Some (record { id = e.task; at = e.deadline })) None
 
 unfoldable pub view : Table → Deadlines
 view t = map deadline_of t.entries
@@ -38,7 +37,7 @@ due now d = leb d.at now
 abbrev pub same_task : Deadline → Deadline → Bool
 same_task d e = is_for d.id e
 
--- Document 01, "Deadlines": live ids distinct
+-- sixteen places, and no task with two deadlines
 pub record SoundDeadlines (ds : Deadlines) : Type 0 where
   pub places : length ds ≡ PLACES
   pub ids : Distinct same_task ds

@@ -1,6 +1,5 @@
 -- What each call on the deadlines answers, and what it leaves.
-use Rattle.std.specs.Prelude.{cond, List, ◌++◌, map, ℕ, length, set, drop, replicate, leb, ltb}
-use Rattle.std.proofs.Math.Option.{some, none}
+use Rattle.std.specs.Prelude.{cond, List, ◌++◌, map, ℕ, length, set, drop, replicate, leb, ltb, Some, None}
 use Rattle.lists.specs.Search.{first_at}
 use Rattle.lists.specs.Entries.{taken, lowest_free, freed, taken_by}
 use Rattle.ids.specs.declared.TaskId.{TaskId}
@@ -10,7 +9,7 @@ use Rattle.answers.specs.Contract.{Step, refusing}
 use Rattle.parktime.specs.Deadlines.{Deadline, Deadlines, PLACES, is_for, due}
 
 abbrev pub fresh : Deadlines
-fresh = replicate PLACES none
+fresh = replicate PLACES None
 
 abbrev pub new_step : Step Deadlines
 new_step = record { reply = done; after = fresh }
@@ -23,7 +22,7 @@ place_for id ds = cond (ltb (first_at (taken (is_for id)) ds) (length ds)) (firs
 unfoldable pub arm_step : Deadlines → TaskId → ℕ → Step Deadlines
 arm_step ds id at =
     cond (ltb (place_for id ds) (length ds))
-    (record { reply = done; after = set ds (place_for id ds) (some (record { id = id; at = at })) })
+    (record { reply = done; after = set ds (place_for id ds) (Some (record { id = id; at = at })) })
     (refusing 11 ds)
 
 unfoldable pub disarm_step : Deadlines → TaskId → Step Deadlines

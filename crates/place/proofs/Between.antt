@@ -12,8 +12,7 @@ use Rattle.output.specs.Output.{INPUT}
 use Rattle.place.specs.declared.Place.{Place}
 use Rattle.place.specs.Here.{tables_of}
 
-pub record Between (size : ℕ) (text out : List ℕ) (p : Place) (at : ℕ) : Type 0 where
-  pub here : at ≡ p.at
+pub record Between (size : ℕ) (text out : List ℕ) (p : Place) : Type 0 where
   pub within : p.at ≤ length text
   pub counted : p.number ≤ p.at
   pub short : length text ≤ INPUT

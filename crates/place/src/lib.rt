@@ -10,12 +10,11 @@ ghost use Rattle.output.specs.Output.{TASKS, TOKENS, INPUT, HEADER, REFUSAL, fie
 ghost use Rattle.output.specs.Places.{Next};
 ghost use Rattle.place.specs.Here.{tables_of};
 
-use answers::{Ack, Refusal};
+use answers::Refusal;
 use irqwait::WaitTable;
 use lines::Line;
 use memory::Tasks;
 use parktime::Table;
-use print::Answer;
 use wake::WakeQueue;
 
 // The most bytes of a script.
@@ -36,7 +35,7 @@ pub struct Place {
 // A line that was read, and the index after it.
 #[derive(Clone, Copy)]
 pub struct Ahead {
-    pub line: Line,
+    pub line: Option<Line>,
     pub at: usize,
 }
 
@@ -44,18 +43,14 @@ pub struct Ahead {
 pub fn begin() -> Place
     ensures { (result.at ≡ 0) × (result.number ≡ 0) × (view (tables_of result) ≡ fresh TASKS TOKENS) × AllSound (tables_of result) }
 {
-    let made = Tasks::new(57);
-    let tasks = made.tasks;
-    let queue = WakeQueue::new(32);
-    let wakes = queue.queue;
     Place {
         at: 0,
         number: 0,
         used: 0,
-        tasks: tasks,
+        tasks: Tasks::new(57).table,
         waits: WaitTable::new(),
         deadlines: Table::new(),
-        wakes: wakes,
+        wakes: WakeQueue::new(32).table,
     }
 }
 
@@ -72,7 +67,8 @@ pub fn refusal(out: &mut [u8]) -> usize
     requires { 256 ≤ length out.old }
     ensures { Wrote out.old 0 REFUSAL result out.new }
 {
-    print::line(out, 0, 0, Answer::Ack(Ack::Refused(Refusal::TooLong)))
+    let answer: Result<(), Refusal> = Err(Refusal::TooLong);
+    print::line(out, 0, 0, answer)
 }
 
 // Whether a script of n bytes is refused with 13.
@@ -100,12 +96,12 @@ pub fn next_line(input: &[u8], at: usize) -> Ahead
     let line = lines::read(words::head(rest, e));
     if at + e < input.len() {
         return Ahead {
-            line: line,
+            line,
             at: at + e + 1,
         };
     }
     Ahead {
-        line: line,
+        line,
         at: input.len(),
     }
 }
@@ -119,38 +115,25 @@ fn spaced(out: &mut [u8], at: usize, v: u64) -> usize
     print::decimal(out, e, v)
 }
 
-// A number of a table, as wide as the printer takes it: the range of a field of a field is not told at a cast.
-fn wide(v: u32) -> u64
-    ensures { result ≡ v }
-{
-    v as u64
-}
-
 // The occupied slots but two, or none.
 fn agents(live: u32) -> u32
     ensures { result ≡ live - 2 }
 {
-    if live < 2 {
-        return 0;
-    }
-    live - 2
+    live.saturating_sub(2)
 }
 
 // The last line: lines read, occupied slots, agents, peak.
-pub fn finish(out: &mut [u8], place: Place) -> usize
+pub fn finish(out: &mut [u8], place: &Place) -> usize
     requires in_bounds { 256 ≤ length out.old }
-    requires all_sound { AllSound (tables_of place) }
-    ensures { Wrote out.old 0 (end_text place.number (view (tables_of place))) result out.new }
+    requires all_sound { AllSound (tables_of place.now) }
+    ensures { Wrote out.old 0 (end_text place.now.number (view (tables_of place.now))) result out.new }
 {
-    let lines = place.number;
-    let tasks = place.tasks;
-    let small = tasks.small;
-    let n = small.n;
-    let peak = wide(small.peak);
-    let live = scans::occupied(&tasks.states, n);
+    let small = &place.tasks.small;
+    let peak = small.peak as u64;
+    let live = scans::occupied(&place.tasks.states, small.n);
     let others = agents(live);
     let a = print::text(out, 0, b"end");
-    let b = spaced(out, a, lines);
+    let b = spaced(out, a, place.number);
     let c = spaced(out, b, live as u64);
     let d = spaced(out, c, others as u64);
     let e = spaced(out, d, peak);

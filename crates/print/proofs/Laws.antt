@@ -1,22 +1,15 @@
 -- How long the texts are.
-use mathlib.Core.Path.{◌≡◌, ap}
-use mathlib.Core.Bool.{true, false}
-use mathlib.Core.List.{List, [], ◌∷◌, ◌++◌}
-use mathlib.Core.Option.{Option, none, some}
-use Prim.Native.Nat.{ℕ, zero, suc, ◌+◌, ◌*◌, ◌^◌, ◌≤◌, ◌<◌, zero-le}
-use native.Mathlib.Omega.{arith}
-use lib.ListN.{length, take, get_or, set, length-append, length-set}
+use Rattle.std.proofs.Common.{Option, Some, None, Result, Ok, Err, ◌≡◌, ap, true, false, List, [], ◌∷◌, ◌++◌, ℕ, zero, suc, ◌+◌, ◌*◌, ◌^◌, ◌≤◌, ◌<◌, zero-le, arith, length, take, get_or, set, length-append, length-set}
 use lib.Seq.{take-nil}
 use Rattle.ids.specs.declared.TaskId.{TaskId}
 use Rattle.ids.specs.Id.{unpacked}
 use Rattle.answers.specs.Reply.{Reply, refused, done, told, number, named, value, stays, switched}
 use Rattle.answers.specs.Answers.{refusal_no, count_reply}
-use Rattle.answers.specs.declared.Count.{Count}
-use Rattle.answers.specs.declared.Count.TheVariants as count_of
-use Rattle.text.specs.Text.{SPACE, FEED, bytes}
-use Rattle.text.specs.Print.{decimal, Wrote}
-use Rattle.text.proofs.PrintLaws.{decimal-short, decimal-within, then, then_byte}
-use Rattle.print.specs.Texts.{id_text, id_or_none, ids_text, answer_text, line_text}
+use Rattle.answers.specs.declared.Refusal.{Refusal}
+use Rattle.text.specs.Text.{bytes}
+use Rattle.text.specs.Print.{decimal}
+use Rattle.text.proofs.PrintLaws.{decimal-short, decimal-within, length_one, length_two, length_hundred}
+use Rattle.print.specs.Texts.{id_text, id_or_none, ids_text, answer_text}
 
 pub id-length : (i : TaskId) → length (id_text i) ≡ length (decimal i.slot) + 1 + length (decimal i.epoch)
 unfolding id_text
@@ -37,8 +30,8 @@ id-short : (i : TaskId) → length (id_text i) ≤ 41
 id-short i = omega (arith, id-length i, decimal-short i.slot, decimal-short i.epoch)
 
 id_or-none-short : (i : Option TaskId) → length (id_or_none i) ≤ 41
-id_or-none-short none = omega arith
-id_or-none-short (some i) = id-short i
+id_or-none-short None = omega arith
+id_or-none-short (Some i) = id-short i
 
 no_ids : (k : ℕ) → ids_text (take k []) ≡ []
 unfolding ids_text
@@ -53,8 +46,8 @@ answer-short (told true) = omega arith
 answer-short (told false) = omega arith
 answer-short (number k) = omega (arith, decimal-short k, length-append (decimal k) (ids_text (take k [])), ap length (no_ids k))
 answer-short (named i) = omega (arith, id_or-none-short i)
-answer-short (value none) = omega arith
-answer-short (value (some v)) = omega (arith, decimal-short v)
+answer-short (value None) = omega arith
+answer-short (value (Some v)) = omega (arith, decimal-short v)
 answer-short stays = omega arith
 answer-short (switched a b r) = omega (arith, switched-length a b r, id-short a, id-short b, id_or-none-short r)
 
@@ -66,19 +59,10 @@ ids_short (suc k) [] h = zero-le
 ids_short (suc k) (raw ∷ raws) h =
     omega (arith, length-append (bytes " " ++ id_text (unpacked raw)) (ids_text (take k raws)), raw-short raw (h 0), ids_short k raws (λ i. h (suc i)))
 
-pub poll-short : (a : Count) (raws : List ℕ) → ((i : ℕ) → get_or raws i 0 < 2 ^ 32) → length (answer_text (count_reply a) raws) ≤ 22 + 12 * length raws
+pub poll-short : (a : Result ℕ Refusal) (raws : List ℕ) → ((i : ℕ) → get_or raws i 0 < 2 ^ 32) → length (answer_text (count_reply a) raws) ≤ 22 + 12 * length raws
 unfolding answer_text
-poll-short (count_of.Is k) raws h = omega (arith, decimal-short k, length-append (decimal k) (ids_text (take k raws)), ids_short k raws h)
-poll-short (count_of.Refused r) raws h = omega (arith, decimal-short (refusal_no r))
+poll-short (Ok k) raws h = omega (arith, decimal-short k, length-append (decimal k) (ids_text (take k raws)), ids_short k raws h)
+poll-short (Err r) raws h = omega (arith, decimal-short (refusal_no r))
 
--- LINES
-
--- the number, the space and the answer are written, and a line feed is left
-module _ (n : ℕ) (r : Reply) (out : List ℕ) {o p q : List ℕ} {at e f : ℕ}
-    (d : Wrote o at (decimal n) e p) (w : Wrote (set p e SPACE) (e + 1) (answer_text r out) f q) where
-  pub line-room : at + 256 ≤ length o → length (answer_text r out) ≤ 214 → f < length q
-  line-room h s = omega (arith, decimal-short n, d.end, d.size, w.end, w.size, length-set p e SPACE)
-
-  pub line-whole : e < length p → f < length q → Wrote o at (line_text n r out) (f + 1) (set q f FEED)
-  unfolding line_text
-  line-whole h k = then_byte FEED (then (then_byte SPACE d h) w) k
+-- what tells that a text has room
+pub ruleset lengths = (length_one, length_two, length_hundred, length-append, decimal-short, answer-short)

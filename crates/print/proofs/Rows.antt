@@ -1,9 +1,5 @@
--- Rows that compute: lines as document 01 writes them.
-use mathlib.Core.Path.{◌≡◌, refl}
-use mathlib.Core.Bool.{true, false}
-use mathlib.Core.List.{List, [], ◌∷◌, map}
-use mathlib.Core.Option.{none, some}
-use Prim.Native.Nat.{ℕ}
+-- Rows that compute: lines, written out.
+use Rattle.std.proofs.Common.{Some, None, ◌≡◌, refl, true, false, List, [], ◌∷◌, map, ℕ}
 use Prim.Native.String.{String}
 use Rattle.ids.specs.declared.TaskId.{TaskId}
 use Rattle.answers.specs.Reply.{Reply, refused, done, told, number, named, value, stays, switched}
@@ -24,21 +20,21 @@ row n r out l = record { n = n; reply = r; out = out; line = l }
 abbrev id : ℕ → ℕ → TaskId
 id slot epoch = record { slot = slot; epoch = epoch }
 
--- the example of document 01; then one row for each other kind of answer, and the ends of the numbers
+-- the lines of a short script; then one row for each other kind of answer, and the ends of the numbers
 abbrev rows : List Row
 rows =
     row 1 done [] "1 0 ok\n"
-    ∷ row 3 (named (some (id 1 0))) [] "3 0 1/0\n"
-    ∷ row 4 (switched (id 0 0) (id 1 0) none) [] "4 0 0/0 1/0 -\n"
-    ∷ row 5 (switched (id 1 0) (id 0 0) none) [] "5 0 1/0 0/0 -\n"
-    ∷ row 6 (switched (id 2 0) (id 0 0) (some (id 1 0))) [] "6 0 2/0 0/0 1/0\n"
+    ∷ row 3 (named (Some (id 1 0))) [] "3 0 1/0\n"
+    ∷ row 4 (switched (id 0 0) (id 1 0) None) [] "4 0 0/0 1/0 -\n"
+    ∷ row 5 (switched (id 1 0) (id 0 0) None) [] "5 0 1/0 0/0 -\n"
+    ∷ row 6 (switched (id 2 0) (id 0 0) (Some (id 1 0))) [] "6 0 2/0 0/0 1/0\n"
     ∷ row 7 (refused 12) [] "7 12\n"
     ∷ row 8 stays [] "8 0 stay\n"
     ∷ row 9 (told true) [] "9 0 true\n"
     ∷ row 10 (told false) [] "10 0 false\n"
-    ∷ row 11 (named none) [] "11 0 -\n"
-    ∷ row 12 (value none) [] "12 0 -\n"
-    ∷ row 13 (value (some 4294967295)) [] "13 0 4294967295\n"
+    ∷ row 11 (named None) [] "11 0 -\n"
+    ∷ row 12 (value None) [] "12 0 -\n"
+    ∷ row 13 (value (Some 4294967295)) [] "13 0 4294967295\n"
     ∷ row 14 (number 2) (1 ∷ 3 ∷ 65538 ∷ []) "14 0 2 1/0 3/0\n"
     ∷ row 15 (number 0) (1 ∷ 3 ∷ []) "15 0 0\n"
     ∷ row 16 (number 1) (4294967295 ∷ []) "16 0 1 65535/65535\n"

@@ -1,12 +1,5 @@
 -- The loop that lists ids.
-use mathlib.Core.Path.{◌≡◌, refl, sym, ap, ◌∙◌}
-use mathlib.Core.List.{List, [], ◌∷◌, ◌++◌, append-nil, append_assoc}
-use Prim.Native.Nat.{ℕ, ◌+◌, ◌-◌, ◌≤◌, ◌<◌}
-use native.Mathlib.Numerals.{add-one}
-use native.Mathlib.Omega.{arith}
-use lib.ListN.{length, take, drop, get_or, length-append}
-use lib.Seq.{take-suc, take_all, take-add}
-use Rattle.ids.specs.declared.TaskId.{TaskId}
+use Rattle.std.proofs.Common.{◌≡◌, refl, sym, ap, ◌∙◌, List, [], ◌∷◌, ◌++◌, append-nil, append_assoc, ℕ, ◌+◌, ◌≤◌, ◌<◌, add-one, arith, length, take, drop, get_or, length-append, take-append-drop, take-suc, take_all}
 use Rattle.ids.specs.Id.{unpacked}
 use Rattle.text.specs.Text.{bytes}
 use Rattle.text.specs.Print.{Wrote}
@@ -25,57 +18,39 @@ unfolding ids_text
 ids_one raw = append-nil (bytes " " ++ id_text (unpacked raw))
 
 -- one id more
-ids_next : (raws : List ℕ) (i : ℕ) (id : TaskId) → i < length raws → id ≡ unpacked (get_or raws i 0)
-    → ids_text (take (i + 1) raws) ≡ ids_text (take i raws) ++ (bytes " " ++ id_text id)
-ids_next raws i id h u =
+ids_next : (raws : List ℕ) (i raw : ℕ) → i < length raws → raw ≡ get_or raws i raw
+    → ids_text (take (i + 1) raws) ≡ ids_text (take i raws) ++ (bytes " " ++ id_text (unpacked raw))
+ids_next raws i raw h read =
     ap (λ (n : ℕ). ids_text (take n raws)) (add-one i)
-    ∙ ap ids_text (take-suc raws i 0 h)
-    ∙ ids-append (take i raws) (get_or raws i 0 ∷ [])
-    ∙ ap (λ (t : List ℕ). ids_text (take i raws) ++ t) (ids_one (get_or raws i 0) ∙ ap (λ (x : TaskId). bytes " " ++ id_text x) (sym u))
+    ∙ ap ids_text (take-suc raws i raw h)
+    ∙ ids-append (take i raws) (get_or raws i raw ∷ [])
+    ∙ ap (λ (t : List ℕ). ids_text (take i raws) ++ t) (ids_one (get_or raws i raw) ∙ ap (λ (x : ℕ). bytes " " ++ id_text (unpacked x)) (sym read))
 
 -- fewer ids are no longer text
-ids_fewer : (raws : List ℕ) (i k : ℕ) → i ≤ k → length (ids_text (take i raws)) ≤ length (ids_text (take k raws))
-ids_fewer raws i k h =
-    let e : i + (k - i) ≡ k = omega arith in
-    let more : List ℕ = take (k - i) (drop i raws) in
-    let whole : ids_text (take k raws) ≡ ids_text (take i raws) ++ ids_text more =
-    ap (λ (n : ℕ). ids_text (take n raws)) (sym e) ∙ ap ids_text (take-add i (k - i) raws) ∙ ids-append (take i raws) more in
-    omega (arith, ap length whole, length-append (ids_text (take i raws)) (ids_text more))
+ids_fewer : (raws : List ℕ) (i : ℕ) → length (ids_text (take i raws)) ≤ length (ids_text raws)
+ids_fewer raws i =
+    let whole : ids_text raws ≡ ids_text (take i raws) ++ ids_text (drop i raws) =
+    ap ids_text (sym (take-append-drop i raws)) ∙ ids-append (take i raws) (drop i raws) in
+    omega (arith, ap length whole, length-append (ids_text (take i raws)) (ids_text (drop i raws)))
 
 -- i of the ids are written, before e
-pub record Listing (o : List ℕ) (at k : ℕ) (raws p : List ℕ) (e i : ℕ) : Type 0 where
-  pub fits : at + length (ids_text (take k raws)) ≤ length o
-  pub within : i ≤ length raws
-  pub counted : i ≤ k
+pub record Listing (o : List ℕ) (at : ℕ) (raws p : List ℕ) (e i : ℕ) : Type 0 where
+  pub fits : at + length (ids_text raws) ≤ length o
   pub wrote : Wrote o at (ids_text (take i raws)) e p
 
-pub begin : (o : List ℕ) (at k : ℕ) (raws : List ℕ) → at + length (ids_text (take k raws)) ≤ length o → Listing o at k raws o at 0
+pub begin : (o : List ℕ) (at : ℕ) (raws : List ℕ) → at + length (ids_text raws) ≤ length o → Listing o at raws o at 0
 unfolding ids_text
-begin o at k raws h = record { fits = h; within = omega arith; counted = omega arith; wrote = wrote_none o at (omega arith) }
+begin o at raws h = record { fits = h; wrote = wrote_none o at (omega arith) }
 
-module _ {o : List ℕ} {at k : ℕ} {raws p : List ℕ} {e i : ℕ} (l : Listing o at k raws p e i) where
-  module _ (id : TaskId) (h : i < length raws) (c : i < k) (u : id ≡ unpacked (get_or raws i 0)) where
-    pub one_fits : e + 1 + length (id_text id) ≤ length p
+module _ {o : List ℕ} {at : ℕ} {raws p : List ℕ} {e i : ℕ} (l : Listing o at raws p e i) where
+  module _ (raw : ℕ) (t : (i < length raws) × (raw ≡ get_or raws i raw)) where
+    pub one_fits : e + 1 + length (id_text (unpacked raw)) ≤ length p
     one_fits =
-        let least : i + 1 ≤ k = omega arith in
         omega
-        (arith, l.fits, l.wrote.end, l.wrote.size, ids_fewer raws (i + 1) k least, ap length (ids_next raws i id h u), length-append (ids_text (take i raws)) (bytes " " ++ id_text id))
+        (arith, l.fits, l.wrote.end, l.wrote.size, ids_fewer raws (i + 1), ap length (ids_next raws i raw t.0 t.1), length-append (ids_text (take i raws)) (bytes " " ++ id_text (unpacked raw)))
 
-    pub turn : (r : ℕ) (q : List ℕ) → Wrote p e (bytes " " ++ id_text id) r q → Listing o at k raws q r (i + 1)
-    turn r q w =
-        record {
-          fits = l.fits;
-          within = omega arith;
-          counted = omega arith;
-          wrote = wrote_as (sym (ids_next raws i id h u)) (then l.wrote w);
-        }
+    pub turn : (r : ℕ) (q : List ℕ) → Wrote p e (bytes " " ++ id_text (unpacked raw)) r q → Listing o at raws q r (i + 1)
+    turn r q w = record { fits = l.fits; wrote = wrote_as (sym (ids_next raws i raw t.0 t.1)) (then l.wrote w) }
 
-  -- as many as were counted
-  pub stopped : k ≤ i → Wrote o at (ids_text (take k raws)) e p
-  stopped h = let z : i ≡ k = omega (arith, l.counted) in wrote_as (ap (λ (n : ℕ). ids_text (take n raws)) z) l.wrote
-
-  -- all that there are
-  pub ended : length raws ≤ i → Wrote o at (ids_text (take k raws)) e p
-  ended h =
-      let z : length raws ≤ k = omega (arith, l.counted) in
-      wrote_as (ap ids_text (take_all i raws h ∙ sym (take_all k raws z))) l.wrote
+  pub ended : length raws ≤ i → Wrote o at (ids_text raws) e p
+  ended h = wrote_as (ap ids_text (take_all i raws h)) l.wrote

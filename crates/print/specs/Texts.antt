@@ -1,6 +1,5 @@
--- Document 01, "The program `events`": per script line its number, its refusal number (0 for none) and its answer.
-use Rattle.std.specs.Prelude.{Bool, true, false, List, [], ◌∷◌, ◌++◌, ℕ, take}
-use Rattle.std.proofs.Math.Option.{Option, none, some}
+-- Per script line of the program `events`: its number, its refusal number (0 for none) and its answer.
+use Rattle.std.specs.Prelude.{Bool, true, false, List, [], ◌∷◌, ◌++◌, ℕ, take, Option, Some, None}
 use Rattle.ids.specs.declared.TaskId.{TaskId}
 use Rattle.ids.specs.Id.{unpacked}
 use Rattle.answers.specs.Reply.{Reply, refused, done, told, number, named, value, stays, switched}
@@ -13,12 +12,12 @@ id_text i = decimal i.slot ++ bytes "/" ++ decimal i.epoch
 
 -- or - for none
 abbrev pub id_or_none : Option TaskId → List ℕ
-id_or_none none = bytes "-"
-id_or_none (some i) = id_text i
+id_or_none None = bytes "-"
+id_or_none (Some i) = id_text i
 
 abbrev pub value_or_none : Option ℕ → List ℕ
-value_or_none none = bytes "-"
-value_or_none (some v) = decimal v
+value_or_none None = bytes "-"
+value_or_none (Some v) = decimal v
 
 abbrev pub truth : Bool → List ℕ
 truth true = bytes "true"

@@ -2,41 +2,26 @@
 // what it wrote.
 #![tactic(auto)]
 
-ghost use Rattle.std.specs.Prelude.{[], ◌++◌, ◌≤◌, ◌<◌, ◌+◌, length, take};
-ghost use Rattle.answers.specs.Answers.{refusal_no, ack_reply, told_reply, count_reply, named_reply};
-ghost use Rattle.switch.specs.Decisions.{release_of, decision_reply};
-ghost use Rattle.wake.specs.Steps.{popped_reply};
+ghost use Rattle.std.specs.Prelude.{[], ◌++◌, ◌≤◌, ◌<◌, ◌+◌, length, take, option_map};
+ghost use Rattle.answers.specs.Reply.{Reply, done, told, named, value};
+ghost use Rattle.answers.specs.Answers.{refusal_no, reply, count_reply};
+ghost use Rattle.switch.specs.Decisions.{decided};
 ghost use Rattle.text.specs.Text.{bytes};
 ghost use Rattle.text.specs.Print.{two_digits, Wrote};
 ghost use Rattle.text.specs.Print.{decimal as Print·decimal};
 ghost use Rattle.print.specs.Texts.{id_text, id_or_none, ids_text, answer_text, line_text};
-ghost use Rattle.print.specs.Said.{answer_reply};
 
-use answers::{Ack, Count, Named, Refusal, Told};
+use answers::{Refusal, Says};
 use ids::{TaskId, Token};
-use switch::{Decision, Release};
-use wake::Popped;
-
-// What a line of a script answered, other than a poll.
-#[derive(Clone, Copy)]
-pub enum Answer {
-    Ack(Ack),
-    Told(Told),
-    Named(Named),
-    Decision(Decision),
-    Popped(Popped),
-}
+use switch::Decision;
 
 pub fn text(out: &mut [u8], at: usize, s: &[u8]) -> usize
     requires { at + length s.now ≤ length out.old }
     ensures { Wrote out.old at s.now result out.new }
 {
-    let mut i = 0;
-    while i < s.len() {
-        out[at + i] = s[i];
-        i += 1;
-    }
-    at + i
+    let end = at + s.len();
+    out[at..end].copy_from_slice(s);
+    end
 }
 
 // A number below a hundred, whatever its size.
@@ -45,200 +30,136 @@ fn two(out: &mut [u8], at: usize, n: u64) -> usize
     requires at_in_bounds { at + 2 ≤ length out.old }
     ensures { Wrote out.old at (two_digits n) result out.new }
 {
-    out[at] = 48 + (n / 10) as u8;
-    let last = at + 1;
-    out[last] = 48 + (n % 10) as u8;
-    last + 1
+    text(out, at, &[b'0' + (n / 10) as u8, b'0' + (n % 10) as u8])
 }
 
-// One digit or two.
-fn short(out: &mut [u8], at: usize, n: u64) -> usize
-    requires n_bound { n < 100 }
-    requires n_in_bounds { at + length (Print·decimal n) ≤ length out.old }
-    ensures { Wrote out.old at (Print·decimal n) result out.new }
-{
-    if n < 10 {
-        out[at] = 48 + n as u8;
-        return at + 1;
-    }
-    two(out, at, n)
-}
-
-// The digits of a hundredth of the number, then its last two: half as many calls as one digit at a time.
-fn long(out: &mut [u8], at: usize, n: u64) -> usize
-    requires le_n { 100 ≤ n }
-    requires n_in_bounds { at + length (Print·decimal n) ≤ length out.old }
-    ensures { Wrote out.old at (Print·decimal n) result out.new }
-{
-    let hundreds = n / 100;
-    if hundreds < 100 {
-        let tens = short(out, at, hundreds);
-        return two(out, tens, n % 100);
-    }
-    let tens = long(out, at, hundreds);
-    two(out, tens, n % 100)
-}
-
-// Most numbers are short: they take no call but this one.
+// The digits of a hundredth of the number, then its last two: half as many calls as one digit at a time. Most numbers are short: they
+// take no call but this one.
+#[tactic(auto, using(crate::proofs::Laws::lengths))]
 pub fn decimal(out: &mut [u8], at: usize, n: u64) -> usize
     requires { at + length (Print·decimal n) ≤ length out.old }
     ensures { Wrote out.old at (Print·decimal n) result out.new }
 {
-    if n < 100 {
-        return short(out, at, n);
+    if n < 10 {
+        text(out, at, &[b'0' + n as u8])
+    } else if n < 100 {
+        two(out, at, n)
+    } else {
+        let tens = decimal(out, at, n / 100);
+        two(out, tens, n % 100)
     }
-    long(out, at, n)
 }
 
+#[tactic(auto, using(crate::proofs::Laws::lengths), unfolding(crate::specs::Texts::id_text))]
 pub fn id(out: &mut [u8], at: usize, i: TaskId) -> usize
     requires { at + length (id_text i) ≤ length out.old }
     ensures { Wrote out.old at (id_text i) result out.new }
 {
     let slash = decimal(out, at, i.slot as u64);
-    out[slash] = b'/';
-    decimal(out, slash + 1, i.epoch as u64)
+    let epoch = text(out, slash, b"/");
+    decimal(out, epoch, i.epoch as u64)
 }
 
 // An id that is not the first word of its line.
+#[tactic(auto, using(crate::proofs::Laws::lengths))]
 fn spaced(out: &mut [u8], at: usize, i: TaskId) -> usize
     requires { at + 1 + length (id_text i) ≤ length out.old }
     ensures { Wrote out.old at (bytes " " ++ id_text i) result out.new }
 {
-    out[at] = b' ';
-    id(out, at + 1, i)
+    let e = text(out, at, b" ");
+    id(out, e, i)
 }
 
 fn refusal(out: &mut [u8], at: usize, why: Refusal) -> usize
     requires { at + length (Print·decimal (refusal_no why)) ≤ length out.old }
     ensures { Wrote out.old at (Print·decimal (refusal_no why)) result out.new }
 {
-    let n = why.number();
-    decimal(out, at, n as u64)
+    decimal(out, at, why.number() as u64)
 }
 
-fn ack(out: &mut [u8], at: usize, a: Ack) -> usize
-    requires { at + length (answer_text (ack_reply a) []) ≤ length out.old }
-    ensures { Wrote out.old at (answer_text (ack_reply a) []) result out.new }
+// An id, or - where there is none.
+fn id_or_none(out: &mut [u8], at: usize, i: Option<TaskId>) -> usize
+    requires { at + length (id_or_none i) ≤ length out.old }
+    ensures { Wrote out.old at (id_or_none i) result out.new }
 {
-    match a {
-        Ack::Done => {
-            return text(out, at, b"0 ok");
-        }
-        Ack::Refused(why) => {
-            return refusal(out, at, why);
+    match i {
+        Some(i) => id(out, at, i),
+        None => text(out, at, b"-"),
+    }
+}
+
+// What a call answers where it does not refuse.
+pub trait Say: Says {
+    // Writes 0 and the answer.
+    fn put(self, out: &mut [u8], at: usize) -> usize
+        requires { at + length (answer_text (Self.says self) []) ≤ length out.old }
+        ensures { Wrote out.old at (answer_text (Self.says self) []) result out.new };
+}
+
+#[tactic(auto, unfolding(crate::specs::Texts::answer_text))]
+impl Say for () {
+    fn put(self, out: &mut [u8], at: usize) -> usize {
+        text(out, at, b"0 ok")
+    }
+}
+
+#[tactic(auto, unfolding(crate::specs::Texts::answer_text))]
+impl Say for bool {
+    fn put(self, out: &mut [u8], at: usize) -> usize {
+        if self {
+            text(out, at, b"0 true")
+        } else {
+            text(out, at, b"0 false")
         }
     }
 }
 
-fn told(out: &mut [u8], at: usize, a: Told) -> usize
-    requires { at + length (answer_text (told_reply a) []) ≤ length out.old }
-    ensures { Wrote out.old at (answer_text (told_reply a) []) result out.new }
-{
-    match a {
-        Told::Is(b) => {
-            if b {
-                return text(out, at, b"0 true");
+#[tactic(auto, unfolding(crate::specs::Texts::answer_text))]
+impl Say for Option<TaskId> {
+    fn put(self, out: &mut [u8], at: usize) -> usize {
+        let e = text(out, at, b"0 ");
+        id_or_none(out, e, self)
+    }
+}
+
+#[tactic(auto, unfolding(crate::specs::Texts::answer_text))]
+impl Say for Option<Token> {
+    fn put(self, out: &mut [u8], at: usize) -> usize {
+        match self {
+            Some(token) => {
+                let e = text(out, at, b"0 ");
+                decimal(out, e, token.0 as u64)
             }
-            return text(out, at, b"0 false");
-        }
-        Told::Refused(why) => {
-            return refusal(out, at, why);
+            None => text(out, at, b"0 -"),
         }
     }
 }
 
-fn named(out: &mut [u8], at: usize, a: Named) -> usize
-    requires { at + length (answer_text (named_reply a) []) ≤ length out.old }
-    ensures { Wrote out.old at (answer_text (named_reply a) []) result out.new }
-{
-    match a {
-        Named::Id(i) => {
-            let e = text(out, at, b"0 ");
-            return id(out, e, i);
-        }
-        Named::Nothing => {
-            return text(out, at, b"0 -");
-        }
-        Named::Refused(why) => {
-            return refusal(out, at, why);
-        }
-    }
-}
-
-fn popped(out: &mut [u8], at: usize, a: Popped) -> usize
-    requires { at + length (answer_text (popped_reply a) []) ≤ length out.old }
-    ensures { Wrote out.old at (answer_text (popped_reply a) []) result out.new }
-{
-    match a {
-        Popped::Token(t) => {
-            let e = text(out, at, b"0 ");
-            return decimal(out, e, t.0 as u64);
-        }
-        Popped::Nothing => {
-            return text(out, at, b"0 -");
-        }
-        Popped::Refused(why) => {
-            return refusal(out, at, why);
-        }
-    }
-}
-
-// Whose stack to release, after a space.
-fn release(out: &mut [u8], at: usize, a: Release) -> usize
-    requires { at + 1 + length (id_or_none (release_of a)) ≤ length out.old }
-    ensures { Wrote out.old at (bytes " " ++ id_or_none (release_of a)) result out.new }
-{
-    match a {
-        Release::Id(i) => {
-            return spaced(out, at, i);
-        }
-        Release::Nothing => {
-            return text(out, at, b" -");
-        }
-    }
-}
-
-fn decision(out: &mut [u8], at: usize, a: Decision) -> usize
-    requires { at + length (answer_text (decision_reply a) []) ≤ length out.old }
-    ensures { Wrote out.old at (answer_text (decision_reply a) []) result out.new }
-{
-    match a {
-        Decision::Stay => {
-            return text(out, at, b"0 stay");
-        }
-        Decision::Switch(from, to, rest) => {
-            let e = text(out, at, b"0 ");
-            let f = id(out, e, from);
-            let g = spaced(out, f, to);
-            return release(out, g, rest);
-        }
-        Decision::Refused(why) => {
-            return refusal(out, at, why);
+#[tactic(auto, unfolding(crate::specs::Texts::answer_text))]
+impl Say for Decision {
+    fn put(self, out: &mut [u8], at: usize) -> usize {
+        match self {
+            Decision::Stay => text(out, at, b"0 stay"),
+            Decision::Switch { from, to, release } => {
+                let e = text(out, at, b"0 ");
+                let f = id(out, e, from);
+                let g = spaced(out, f, to);
+                let h = text(out, g, b" ");
+                id_or_none(out, h, release)
+            }
         }
     }
 }
 
 // Writes an answer: the refusal number, or 0 and what the call says.
-pub fn reply(out: &mut [u8], at: usize, a: Answer) -> usize
-    requires { at + length (answer_text (answer_reply a) []) ≤ length out.old }
-    ensures { Wrote out.old at (answer_text (answer_reply a) []) result out.new }
+#[tactic(auto, unfolding(crate::specs::Texts::answer_text))]
+pub fn reply<A: Say>(out: &mut [u8], at: usize, a: Result<A, Refusal>) -> usize
+    requires { at + length (answer_text (reply A.says a) []) ≤ length out.old }
+    ensures { Wrote out.old at (answer_text (reply A.says a) []) result out.new }
 {
     match a {
-        Answer::Ack(k) => {
-            return ack(out, at, k);
-        }
-        Answer::Told(k) => {
-            return told(out, at, k);
-        }
-        Answer::Named(k) => {
-            return named(out, at, k);
-        }
-        Answer::Decision(k) => {
-            return decision(out, at, k);
-        }
-        Answer::Popped(k) => {
-            return popped(out, at, k);
-        }
+        Ok(answer) => answer.put(out, at),
+        Err(why) => refusal(out, at, why),
     }
 }
 
@@ -248,55 +169,55 @@ fn listing(out: &mut [u8], at: usize, k: u64, raws: &[u32]) -> usize
     ensures { Wrote out.old at (ids_text (take k raws.now)) result out.new }
 {
     let mut end = at;
-    let mut i = 0;
-    while i < raws.len() {
-        if k <= i as u64 {
-            return end;
-        }
-        end = spaced(out, end, TaskId::from_raw(Token(raws[i])));
-        i += 1;
+    for raw in raws.iter().take(k as usize) {
+        end = spaced(out, end, TaskId::from_raw(Token(*raw)));
     }
     end
 }
 
 // Writes the answer to a poll, with the ids that it wrote into `raws`.
-pub fn polled(out: &mut [u8], at: usize, a: Count, raws: &[u32]) -> usize
+#[tactic(auto, unfolding(crate::specs::Texts::answer_text))]
+pub fn polled(out: &mut [u8], at: usize, a: Result<u64, Refusal>, raws: &[u32]) -> usize
     requires { at + length (answer_text (count_reply a) raws.now) ≤ length out.old }
     ensures { Wrote out.old at (answer_text (count_reply a) raws.now) result out.new }
 {
     match a {
-        Count::Is(k) => {
+        Ok(k) => {
             let e = text(out, at, b"0 ");
             let f = decimal(out, e, k);
-            return listing(out, f, k, raws);
+            listing(out, f, k, raws)
         }
-        Count::Refused(why) => {
-            return refusal(out, at, why);
-        }
+        Err(why) => refusal(out, at, why),
     }
 }
 
 // The line that answers line n of a script. No line is longer than 256 bytes.
-pub fn line(out: &mut [u8], at: usize, n: u64, a: Answer) -> usize
+#[tactic(auto, using(crate::proofs::Laws::lengths), unfolding(crate::specs::Texts::line_text))]
+pub fn line<A: Say>(out: &mut [u8], at: usize, n: u64, a: Result<A, Refusal>) -> usize
     requires { at + 256 ≤ length out.old }
-    ensures { Wrote out.old at (line_text n (answer_reply a) []) result out.new }
+    ensures { Wrote out.old at (line_text n (reply A.says a) []) result out.new }
 {
     let e = decimal(out, at, n);
-    out[e] = b' ';
-    let f = reply(out, e + 1, a);
-    out[f] = b'\n';
-    f + 1
+    let f = text(out, e, b" ");
+    let g = reply(out, f, a);
+    text(out, g, b"\n")
 }
 
 // Likewise, of a poll.
-pub fn polled_line(out: &mut [u8], at: usize, n: u64, a: Count, raws: &[u32]) -> usize
+#[tactic(auto, using(crate::proofs::Laws::lengths), unfolding(crate::specs::Texts::line_text))]
+pub fn polled_line(
+    out: &mut [u8],
+    at: usize,
+    n: u64,
+    a: Result<u64, Refusal>,
+    raws: &[u32],
+) -> usize
     requires at_in_bounds { at + 256 ≤ length out.old }
     requires raws_len_bound { length raws.now ≤ 16 }
     ensures { Wrote out.old at (line_text n (count_reply a) raws.now) result out.new }
 {
     let e = decimal(out, at, n);
-    out[e] = b' ';
-    let f = polled(out, e + 1, a, raws);
-    out[f] = b'\n';
-    f + 1
+    let f = text(out, e, b" ");
+    let g = polled(out, f, a, raws);
+    text(out, g, b"\n")
 }

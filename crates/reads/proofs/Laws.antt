@@ -1,8 +1,8 @@
 -- What each read of a table's fields is on paper.
+use Rattle.std.specs.Prelude.{Some, None}
 use mathlib.Core.Path.{◌≡◌, refl, sym, ◌∙◌, ap, subst}
 use mathlib.Core.Bool.{Bool, true, false, not, cond}
 use mathlib.Core.List.{List, [], ◌∷◌}
-use mathlib.Core.Option.{some, none}
 use mathlib.Core.Logic.{⊎_elim}
 use Prim.Native.Nat.{ℕ, ◌≤◌, ◌<◌}
 use native.Mathlib.Omega.{arith}
@@ -40,11 +40,11 @@ module _ (t : Tasks) (w : Sound t) where
   of_cpu : (c : ℕ) (got r : Reply) → c < CPUS → (Refused got → ⊥) → got ≡ r → Reads table t got (on_cpu (view t) c r)
   of_cpu c got r h f e = tells got (on_cpu (view t) c r) f (e ∙ rw (lt-ltb c (length (view t).cpus) (omega (arith, view_ncpus t))))
 
-  pub current_is : (c : ℕ) → c < CPUS → Reads table t (named (some (get_or t.small.currents c idle))) (current_reply (view t) c)
-  current_is c h = of_cpu c _ _ h (λ z. z) (ap (λ (i : TaskId). named (some i)) (sym (view-current t c h)))
+  pub current_is : (c : ℕ) → c < CPUS → Reads table t (named (Some (get_or t.small.currents c idle))) (current_reply (view t) c)
+  current_is c h = of_cpu c _ _ h (λ z. z) (ap (λ (i : TaskId). named (Some i)) (sym (view-current t c h)))
 
-  pub idle_is : (c : ℕ) → c < CPUS → Reads table t (named (some (get_or t.small.idles c idle))) (idle_reply (view t) c)
-  idle_is c h = of_cpu c _ _ h (λ z. z) (ap (λ (i : TaskId). named (some i)) (sym (view-idle t c h)))
+  pub idle_is : (c : ℕ) → c < CPUS → Reads table t (named (Some (get_or t.small.idles c idle))) (idle_reply (view t) c)
+  idle_is c h = of_cpu c _ _ h (λ z. z) (ap (λ (i : TaskId). named (Some i)) (sym (view-idle t c h)))
 
   pub ready_is : (c : ℕ) → c < CPUS → Reads table t (told (not (eqb (len_of t c) 0))) (ready_reply (view t) c)
   ready_is c h = of_cpu c _ _ h (λ z. z) (ap (λ b. told (not b)) (ap (λ l. eqb l 0) (sym (view-len t c h)) ∙ nil (queue_of (view t) c)))
@@ -64,7 +64,7 @@ module _ (t : Tasks) (w : Sound t) where
   pub near : (id : TaskId) → known_in t.epochs t.small.n id ≡ true → id.slot < t.small.n
   near id h = ltb-true id.slot t.small.n (both_true (ltb id.slot t.small.n) (eqb (get_or t.epochs id.slot 0) id.epoch) h).0
 
-  pub unknown : (id : TaskId) (f : ℕ → ℕ) → known_in t.epochs t.small.n id ≡ false → Reads table t (value none) (value (cond (known (view t) id) (some (f id.slot)) none))
+  pub unknown : (id : TaskId) (f : ℕ → ℕ) → known_in t.epochs t.small.n id ≡ false → Reads table t (value None) (value (cond (known (view t) id) (Some (f id.slot)) None))
   unknown id f h = tells _ _ (λ z. z) (rw (knows id false h))
 
   pub code_known : (s : ℕ) → s < t.small.n → get_or t.states s 0 < STATES
@@ -72,28 +72,28 @@ module _ (t : Tasks) (w : Sound t) where
       ⊎_elim (λ (e : view t ≡ fresh (view t).n). let z = ap (λ (m : Model). state_of m s) e in omega (arith, z, get_or-all (view t).n s EMPTY, view-state t s h))
       (λ (l : plain.Live (view t)). omega (arith, (l.slots s (omega (arith, view_n t))).state, view-state t s h)) w.model.either
 
-  pub state_is : (id : TaskId) (s : ℕ) → known_in t.epochs t.small.n id ≡ true → s ≡ get_or t.states id.slot 0 → Reads table t (value (some s)) (state_reply (view t) id)
-  state_is id s h e = tells _ _ (λ z. z) (rw (knows id true h) (ap (λ s. value (some s)) (e ∙ sym (view-state t id.slot (near id h)))))
+  pub state_is : (id : TaskId) (s : ℕ) → known_in t.epochs t.small.n id ≡ true → s ≡ get_or t.states id.slot 0 → Reads table t (value (Some s)) (state_reply (view t) id)
+  state_is id s h e = tells _ _ (λ z. z) (rw (knows id true h) (ap (λ s. value (Some s)) (e ∙ sym (view-state t id.slot (near id h)))))
 
-  pub home_is : (id : TaskId) → known_in t.epochs t.small.n id ≡ true → Reads table t (value (some (get_or t.homes id.slot 0))) (home_reply (view t) id)
-  home_is id h = tells _ _ (λ z. z) (rw (knows id true h) (ap (λ s. value (some s)) (sym (view-home t id.slot (near id h)))))
+  pub home_is : (id : TaskId) → known_in t.epochs t.small.n id ≡ true → Reads table t (value (Some (get_or t.homes id.slot 0))) (home_reply (view t) id)
+  home_is id h = tells _ _ (λ z. z) (rw (knows id true h) (ap (λ s. value (Some s)) (sym (view-home t id.slot (near id h)))))
 
   pub stealeable_is : (id : TaskId) (b : Bool) → b ≡ stealeable_in t.epochs t.marks t.small.n t.small.idles id → Reads table t (told b) (stealeable_reply (view t) id)
   stealeable_is id b e = tells _ _ (λ z. z) (ap told (e ∙ sym (view-stealeable t w.rep id)))
 
   -- A SLOT
 
-  pub live_above : (s : ℕ) → t.small.n ≤ s → Reads table t (named none) (live_reply (view t) s)
+  pub live_above : (s : ℕ) → t.small.n ≤ s → Reads table t (named None) (live_reply (view t) s)
   live_above s h = tells _ _ (λ z. z) (rw (le-ltb s (view t).n (omega (arith, view_n t))))
 
-  pub live-none : (s : ℕ) → s < t.small.n → get_or t.states s 0 ≡ EMPTY → Reads table t (named none) (live_reply (view t) s)
+  pub live-none : (s : ℕ) → s < t.small.n → get_or t.states s 0 ≡ EMPTY → Reads table t (named None) (live_reply (view t) s)
   live-none s h e = tells _ _ (λ z. z) (rw (lt-ltb s (view t).n (omega (arith, view_n t)), eq-eqb (state_of (view t) s) EMPTY (view-state t s h ∙ e)))
 
-  pub live_is : (s : ℕ) → s < t.small.n → (get_or t.states s 0 ≡ EMPTY → ⊥) → Reads table t (named (some (record { slot = s; epoch = get_or t.epochs s 0 }))) (live_reply (view t) s)
+  pub live_is : (s : ℕ) → s < t.small.n → (get_or t.states s 0 ≡ EMPTY → ⊥) → Reads table t (named (Some (record { slot = s; epoch = get_or t.epochs s 0 }))) (live_reply (view t) s)
   live_is s h ne =
       tells _ _ (λ z. z)
       (rw (lt-ltb s (view t).n (omega (arith, view_n t)), ne_eqb (state_of (view t) s) EMPTY (λ e. ne (sym (view-state t s h) ∙ e)))
-      (ap (λ (e : ℕ). named (some (record { slot = s; epoch = e }))) (sym (view-epoch t s h))))
+      (ap (λ (e : ℕ). named (Some (record { slot = s; epoch = e }))) (sym (view-epoch t s h))))
 
   -- THE COUNTERS
 

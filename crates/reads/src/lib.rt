@@ -1,4 +1,4 @@
-// What a table tells, for callers that know it to be sound. The arrays are lent to be read.
+// What a table tells, for callers that know it to be sound. The table is lent to be read.
 #![tactic(auto)]
 
 ghost use Rattle.std.specs.Prelude.{◌≡◌, ◌<◌};
@@ -8,87 +8,49 @@ ghost use Rattle.model.specs.Reads.{current_reply, idle_reply, ready_reply, star
 ghost use Rattle.memory.specs.View.{Sound};
 ghost use Rattle.memory.specs.Lent.{shown, ReadsLent};
 
-use answers::{Count, Homed, Named, Refusal, State, Stated, Told};
+use answers::{Refusal, State};
 use ids::TaskId;
-use memory::Small;
+use memory::TasksRef;
 
-pub fn current_on_in<'a>(
-    states: &'a [u8; 64],
-    epochs: &'a [u16; 64],
-    homes: &'a [u8; 64],
-    marks: &'a [u8; 64],
-    ring_slots: &'a [u16; 128],
-    ring_epochs: &'a [u16; 128],
-    s: Small,
-    cpu: u8,
-) -> Named
-    requires { Sound (shown states epochs homes marks ring_slots ring_epochs s) }
-    ensures { ReadsLent states epochs homes marks ring_slots ring_epochs s (named_reply result) (λ m. current_reply m cpu) }
+pub fn current_on_in(t: TasksRef, cpu: u8) -> Result<Option<TaskId>, Refusal>
+    requires { Sound (shown t) }
+    ensures { ReadsLent t.entry (named_reply result) (λ m. current_reply m cpu) }
 {
     let c = cpu as usize;
     if memory::CPUS <= c {
-        return Named::Refused(Refusal::BadCpu);
+        return Err(Refusal::BadCpu);
     }
-    let id = s.currents[c];
-    Named::Id(id)
+    Ok(Some(t.small.currents[c]))
 }
 
-pub fn idle_of_in<'a>(
-    states: &'a [u8; 64],
-    epochs: &'a [u16; 64],
-    homes: &'a [u8; 64],
-    marks: &'a [u8; 64],
-    ring_slots: &'a [u16; 128],
-    ring_epochs: &'a [u16; 128],
-    s: Small,
-    cpu: u8,
-) -> Named
-    requires { Sound (shown states epochs homes marks ring_slots ring_epochs s) }
-    ensures { ReadsLent states epochs homes marks ring_slots ring_epochs s (named_reply result) (λ m. idle_reply m cpu) }
+pub fn idle_of_in(t: TasksRef, cpu: u8) -> Result<Option<TaskId>, Refusal>
+    requires { Sound (shown t) }
+    ensures { ReadsLent t.entry (named_reply result) (λ m. idle_reply m cpu) }
 {
     let c = cpu as usize;
     if memory::CPUS <= c {
-        return Named::Refused(Refusal::BadCpu);
+        return Err(Refusal::BadCpu);
     }
-    let id = s.idles[c];
-    Named::Id(id)
+    Ok(Some(t.small.idles[c]))
 }
 
 // Whether a task waits for the CPU.
-pub fn has_ready_on_in<'a>(
-    states: &'a [u8; 64],
-    epochs: &'a [u16; 64],
-    homes: &'a [u8; 64],
-    marks: &'a [u8; 64],
-    ring_slots: &'a [u16; 128],
-    ring_epochs: &'a [u16; 128],
-    s: Small,
-    cpu: u8,
-) -> Told
-    requires { Sound (shown states epochs homes marks ring_slots ring_epochs s) }
-    ensures { ReadsLent states epochs homes marks ring_slots ring_epochs s (told_reply result) (λ m. ready_reply m cpu) }
+pub fn has_ready_on_in(t: TasksRef, cpu: u8) -> Result<bool, Refusal>
+    requires { Sound (shown t) }
+    ensures { ReadsLent t.entry (told_reply result) (λ m. ready_reply m cpu) }
 {
     let c = cpu as usize;
     if memory::CPUS <= c {
-        return Told::Refused(Refusal::BadCpu);
+        return Err(Refusal::BadCpu);
     }
-    Told::Is(s.lens[c] != 0)
+    Ok(t.small.lens[c] != 0)
 }
 
-pub fn cpu1_started_in<'a>(
-    states: &'a [u8; 64],
-    epochs: &'a [u16; 64],
-    homes: &'a [u8; 64],
-    marks: &'a [u8; 64],
-    ring_slots: &'a [u16; 128],
-    ring_epochs: &'a [u16; 128],
-    s: Small,
-) -> Told
-    requires { Sound (shown states epochs homes marks ring_slots ring_epochs s) }
-    ensures { ReadsLent states epochs homes marks ring_slots ring_epochs s (told_reply result) (λ m. started_reply m 1) }
+pub fn cpu1_started_in(t: TasksRef) -> Result<bool, Refusal>
+    requires { Sound (shown t) }
+    ensures { ReadsLent t.entry (told_reply result) (λ m. started_reply m 1) }
 {
-    let idle = s.idles[1];
-    Told::Is(!idle.same(TaskId::IDLE))
+    Ok(t.small.idles[1] != TaskId::IDLE)
 }
 
 // The state that a code stands for.
@@ -96,219 +58,114 @@ fn named_state(code: u8) -> State
     requires { code < STATES }
     ensures { state_no result ≡ code }
 {
-    if code == memory::EMPTY {
-        return State::Empty;
+    match code {
+        memory::EMPTY => State::Empty,
+        memory::READY => State::Ready,
+        memory::RUNNING => State::Running,
+        _ => State::Blocked,
     }
-    if code == memory::READY {
-        return State::Ready;
-    }
-    if code == memory::RUNNING {
-        return State::Running;
-    }
-    State::Blocked
 }
 
-pub fn state_in<'a>(
-    states: &'a [u8; 64],
-    epochs: &'a [u16; 64],
-    homes: &'a [u8; 64],
-    marks: &'a [u8; 64],
-    ring_slots: &'a [u16; 128],
-    ring_epochs: &'a [u16; 128],
-    s: Small,
-    id: TaskId,
-) -> Stated
-    requires { Sound (shown states epochs homes marks ring_slots ring_epochs s) }
-    ensures { ReadsLent states epochs homes marks ring_slots ring_epochs s (stated_reply result) (λ m. state_reply m id) }
+pub fn state_in(t: TasksRef, id: TaskId) -> Result<Option<State>, Refusal>
+    requires { Sound (shown t) }
+    ensures { ReadsLent t.entry (stated_reply result) (λ m. state_reply m id) }
 {
-    if !scans::known(epochs, s.n, id) {
-        return Stated::Nothing;
+    if !scans::known(t.epochs, t.small.n, id) {
+        return Ok(None);
     }
-    let i = id.slot as usize;
-    Stated::Is(named_state(states[i]))
+    Ok(Some(named_state(t.states[id.slot as usize])))
 }
 
-pub fn home_of_in<'a>(
-    states: &'a [u8; 64],
-    epochs: &'a [u16; 64],
-    homes: &'a [u8; 64],
-    marks: &'a [u8; 64],
-    ring_slots: &'a [u16; 128],
-    ring_epochs: &'a [u16; 128],
-    s: Small,
-    id: TaskId,
-) -> Homed
-    requires { Sound (shown states epochs homes marks ring_slots ring_epochs s) }
-    ensures { ReadsLent states epochs homes marks ring_slots ring_epochs s (homed_reply result) (λ m. home_reply m id) }
+pub fn home_of_in(t: TasksRef, id: TaskId) -> Result<Option<u8>, Refusal>
+    requires { Sound (shown t) }
+    ensures { ReadsLent t.entry (homed_reply result) (λ m. home_reply m id) }
 {
-    if !scans::known(epochs, s.n, id) {
-        return Homed::Nothing;
+    if !scans::known(t.epochs, t.small.n, id) {
+        return Ok(None);
     }
-    let i = id.slot as usize;
-    Homed::Cpu(homes[i])
+    Ok(Some(t.homes[id.slot as usize]))
 }
 
 // The task that a slot has, if any.
-pub fn live_id_in<'a>(
-    states: &'a [u8; 64],
-    epochs: &'a [u16; 64],
-    homes: &'a [u8; 64],
-    marks: &'a [u8; 64],
-    ring_slots: &'a [u16; 128],
-    ring_epochs: &'a [u16; 128],
-    s: Small,
-    slot: usize,
-) -> Named
-    requires { Sound (shown states epochs homes marks ring_slots ring_epochs s) }
-    ensures { ReadsLent states epochs homes marks ring_slots ring_epochs s (named_reply result) (λ m. live_reply m slot) }
+pub fn live_id_in(t: TasksRef, slot: usize) -> Result<Option<TaskId>, Refusal>
+    requires { Sound (shown t) }
+    ensures { ReadsLent t.entry (named_reply result) (λ m. live_reply m slot) }
 {
-    if s.n <= slot {
-        return Named::Nothing;
+    if t.small.n <= slot || t.states[slot] == memory::EMPTY {
+        return Ok(None);
     }
-    if states[slot] == memory::EMPTY {
-        return Named::Nothing;
-    }
-    let id = TaskId {
+    Ok(Some(TaskId {
         slot: slot as u16,
-        epoch: epochs[slot],
-    };
-    Named::Id(id)
+        epoch: t.epochs[slot],
+    }))
 }
 
-pub fn is_stealeable_in<'a>(
-    states: &'a [u8; 64],
-    epochs: &'a [u16; 64],
-    homes: &'a [u8; 64],
-    marks: &'a [u8; 64],
-    ring_slots: &'a [u16; 128],
-    ring_epochs: &'a [u16; 128],
-    s: Small,
-    id: TaskId,
-) -> Told
-    requires { Sound (shown states epochs homes marks ring_slots ring_epochs s) }
-    ensures { ReadsLent states epochs homes marks ring_slots ring_epochs s (told_reply result) (λ m. stealeable_reply m id) }
+pub fn is_stealeable_in(t: TasksRef, id: TaskId) -> Result<bool, Refusal>
+    requires { Sound (shown t) }
+    ensures { ReadsLent t.entry (told_reply result) (λ m. stealeable_reply m id) }
 {
-    let idles = s.idles;
-    Told::Is(scans::stealeable(epochs, marks, s.n, idles, id))
+    Ok(scans::stealeable(t.epochs, t.marks, t.small.n, t.small.idles, id))
 }
 
 // Whether a try to steal would move a task: the same walk, with nothing moved.
-pub fn can_steal_into_in<'a>(
-    states: &'a [u8; 64],
-    epochs: &'a [u16; 64],
-    homes: &'a [u8; 64],
-    marks: &'a [u8; 64],
-    ring_slots: &'a [u16; 128],
-    ring_epochs: &'a [u16; 128],
-    s: Small,
-    thief: u8,
-) -> Told
-    requires { Sound (shown states epochs homes marks ring_slots ring_epochs s) }
-    ensures { ReadsLent states epochs homes marks ring_slots ring_epochs s (told_reply result) (λ m. can_steal_reply m thief) }
+pub fn can_steal_into_in(t: TasksRef, thief: u8) -> Result<bool, Refusal>
+    requires { Sound (shown t) }
+    ensures { ReadsLent t.entry (told_reply result) (λ m. can_steal_reply m thief) }
 {
     let c = thief as usize;
-    if memory::CPUS <= c {
-        return Told::Is(false);
-    }
-    if s.lens[c] != 0 {
-        return Told::Is(false);
+    if memory::CPUS <= c || t.small.lens[c] != 0 {
+        return Ok(false);
     }
     let peer = (c + 1) % memory::CPUS;
-    let idles = s.idles;
-    let len = s.lens[peer];
-    let head = s.heads[peer];
-    let mut j = 0;
-    while j < len {
-        let at = memory::spot(peer, s.n, head + j);
+    let head = t.small.heads[peer];
+    for j in 0..t.small.lens[peer] {
+        let at = memory::spot(peer, t.small.n, head + j);
         let id = TaskId {
-            slot: ring_slots[at],
-            epoch: ring_epochs[at],
+            slot: t.ring_slots[at],
+            epoch: t.ring_epochs[at],
         };
-        if scans::stealeable(epochs, marks, s.n, idles, id) {
-            return Told::Is(true);
+        if scans::stealeable(t.epochs, t.marks, t.small.n, t.small.idles, id) {
+            return Ok(true);
         }
-        j = j + 1;
     }
-    Told::Is(false)
+    Ok(false)
 }
 
 // How many exits displaced a task that was parked.
-pub fn overwrites_in<'a>(
-    states: &'a [u8; 64],
-    epochs: &'a [u16; 64],
-    homes: &'a [u8; 64],
-    marks: &'a [u8; 64],
-    ring_slots: &'a [u16; 128],
-    ring_epochs: &'a [u16; 128],
-    s: Small,
-) -> Count
-    requires { Sound (shown states epochs homes marks ring_slots ring_epochs s) }
-    ensures { ReadsLent states epochs homes marks ring_slots ring_epochs s (count_reply result) overwrites_reply }
+pub fn overwrites_in(t: TasksRef) -> Result<u64, Refusal>
+    requires { Sound (shown t) }
+    ensures { ReadsLent t.entry (count_reply result) overwrites_reply }
 {
-    Count::Is(s.overwrites as u64)
+    Ok(t.small.overwrites as u64)
 }
 
-pub fn blocked_count_in<'a>(
-    states: &'a [u8; 64],
-    epochs: &'a [u16; 64],
-    homes: &'a [u8; 64],
-    marks: &'a [u8; 64],
-    ring_slots: &'a [u16; 128],
-    ring_epochs: &'a [u16; 128],
-    s: Small,
-) -> Count
-    requires { Sound (shown states epochs homes marks ring_slots ring_epochs s) }
-    ensures { ReadsLent states epochs homes marks ring_slots ring_epochs s (count_reply result) blocked_reply }
+pub fn blocked_count_in(t: TasksRef) -> Result<u64, Refusal>
+    requires { Sound (shown t) }
+    ensures { ReadsLent t.entry (count_reply result) blocked_reply }
 {
-    let k = scans::blocked(states, s.n);
-    Count::Is(k as u64)
+    Ok(scans::blocked(t.states, t.small.n) as u64)
 }
 
 // How often a task was blocked.
-pub fn block_events_in<'a>(
-    states: &'a [u8; 64],
-    epochs: &'a [u16; 64],
-    homes: &'a [u8; 64],
-    marks: &'a [u8; 64],
-    ring_slots: &'a [u16; 128],
-    ring_epochs: &'a [u16; 128],
-    s: Small,
-) -> Count
-    requires { Sound (shown states epochs homes marks ring_slots ring_epochs s) }
-    ensures { ReadsLent states epochs homes marks ring_slots ring_epochs s (count_reply result) block_events_reply }
+pub fn block_events_in(t: TasksRef) -> Result<u64, Refusal>
+    requires { Sound (shown t) }
+    ensures { ReadsLent t.entry (count_reply result) block_events_reply }
 {
-    Count::Is(s.block_events as u64)
+    Ok(t.small.block_events as u64)
 }
 
 // How many slots have a task.
-pub fn live_count_in<'a>(
-    states: &'a [u8; 64],
-    epochs: &'a [u16; 64],
-    homes: &'a [u8; 64],
-    marks: &'a [u8; 64],
-    ring_slots: &'a [u16; 128],
-    ring_epochs: &'a [u16; 128],
-    s: Small,
-) -> Count
-    requires { Sound (shown states epochs homes marks ring_slots ring_epochs s) }
-    ensures { ReadsLent states epochs homes marks ring_slots ring_epochs s (count_reply result) live_count_reply }
+pub fn live_count_in(t: TasksRef) -> Result<u64, Refusal>
+    requires { Sound (shown t) }
+    ensures { ReadsLent t.entry (count_reply result) live_count_reply }
 {
-    let k = scans::occupied(states, s.n);
-    Count::Is(k as u64)
+    Ok(scans::occupied(t.states, t.small.n) as u64)
 }
 
 // The most slots that had a task at one time.
-pub fn peak_slots_in<'a>(
-    states: &'a [u8; 64],
-    epochs: &'a [u16; 64],
-    homes: &'a [u8; 64],
-    marks: &'a [u8; 64],
-    ring_slots: &'a [u16; 128],
-    ring_epochs: &'a [u16; 128],
-    s: Small,
-) -> Count
-    requires { Sound (shown states epochs homes marks ring_slots ring_epochs s) }
-    ensures { ReadsLent states epochs homes marks ring_slots ring_epochs s (count_reply result) peak_reply }
+pub fn peak_slots_in(t: TasksRef) -> Result<u64, Refusal>
+    requires { Sound (shown t) }
+    ensures { ReadsLent t.entry (count_reply result) peak_reply }
 {
-    Count::Is(s.peak as u64)
+    Ok(t.small.peak as u64)
 }

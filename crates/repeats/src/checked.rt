@@ -11,14 +11,9 @@ use wake::WakeQueue;
 #[unsafe(no_mangle)]
 pub extern "C" fn bredumalt_checked_yield(start: Tasks, rounds: u32) -> u64 {
     let mut t = start;
-    let mut sum = 0u64;
-    let mut left = rounds;
-    while 0 < left {
-        left = left - 1;
-        let done = tasks::switch_on(t, 0, Kind::Yield);
-        let answer = done.answer;
-        t = done.tasks;
-        sum = sums::decided(sum, answer);
+    let mut sum = 0;
+    for _ in 0..rounds {
+        t = sums::take(&mut sum, tasks::switch_on(t, 0, Kind::Yield));
     }
     sum
 }
@@ -27,43 +22,18 @@ pub extern "C" fn bredumalt_checked_yield(start: Tasks, rounds: u32) -> u64 {
 #[unsafe(no_mangle)]
 pub extern "C" fn bredumalt_checked_mix(start: Tasks, rounds: u32) -> u64 {
     let mut t = start;
-    let mut sum = 0u64;
-    let mut left = rounds;
-    while 0 < left {
-        left = left - 1;
+    let mut sum = 0;
+    for _ in 0..rounds {
         let done = tasks::switch_on(t, 0, Kind::Yield);
-        let answer = done.answer;
-        t = done.tasks;
-        let id = sums::runs(answer);
-        sum = sums::decided(sum, answer);
-        let done = tasks::admit_on(t, 1);
-        let answer = done.answer;
-        t = done.tasks;
-        sum = sums::named(sum, answer);
-        let done = tasks::switch_on(t, 0, Kind::Block);
-        let answer = done.answer;
-        t = done.tasks;
-        sum = sums::decided(sum, answer);
-        let done = tasks::switch_on(t, 1, Kind::Preempt);
-        let answer = done.answer;
-        t = done.tasks;
-        sum = sums::decided(sum, answer);
-        let done = tasks::wake(t, id);
-        let answer = done.answer;
-        t = done.tasks;
-        sum = sums::told(sum, answer);
-        let done = tasks::switch_on(t, 1, Kind::Yield);
-        let answer = done.answer;
-        t = done.tasks;
-        sum = sums::decided(sum, answer);
-        let done = tasks::switch_on(t, 1, Kind::Exit);
-        let answer = done.answer;
-        t = done.tasks;
-        sum = sums::decided(sum, answer);
-        let done = tasks::collect(t);
-        let answer = done.answer;
-        t = done.tasks;
-        sum = sums::named(sum, answer);
+        let id = sums::runs(done.answer);
+        t = sums::take(&mut sum, done);
+        t = sums::take(&mut sum, tasks::admit_on(t, 1));
+        t = sums::take(&mut sum, tasks::switch_on(t, 0, Kind::Block));
+        t = sums::take(&mut sum, tasks::switch_on(t, 1, Kind::Preempt));
+        t = sums::take(&mut sum, tasks::wake(t, id));
+        t = sums::take(&mut sum, tasks::switch_on(t, 1, Kind::Yield));
+        t = sums::take(&mut sum, tasks::switch_on(t, 1, Kind::Exit));
+        t = sums::take(&mut sum, tasks::collect(t));
     }
     sum
 }
@@ -72,22 +42,11 @@ pub extern "C" fn bredumalt_checked_mix(start: Tasks, rounds: u32) -> u64 {
 #[unsafe(no_mangle)]
 pub extern "C" fn bredumalt_checked_wake(start: Tasks, id: TaskId, rounds: u32) -> u64 {
     let mut t = start;
-    let mut sum = 0u64;
-    let mut left = rounds;
-    while 0 < left {
-        left = left - 1;
-        let done = tasks::switch_on(t, 0, Kind::Block);
-        let answer = done.answer;
-        t = done.tasks;
-        sum = sums::decided(sum, answer);
-        let done = tasks::wake(t, id);
-        let answer = done.answer;
-        t = done.tasks;
-        sum = sums::told(sum, answer);
-        let done = tasks::switch_on(t, 0, Kind::Yield);
-        let answer = done.answer;
-        t = done.tasks;
-        sum = sums::decided(sum, answer);
+    let mut sum = 0;
+    for _ in 0..rounds {
+        t = sums::take(&mut sum, tasks::switch_on(t, 0, Kind::Block));
+        t = sums::take(&mut sum, tasks::wake(t, id));
+        t = sums::take(&mut sum, tasks::switch_on(t, 0, Kind::Yield));
     }
     sum
 }
@@ -96,26 +55,12 @@ pub extern "C" fn bredumalt_checked_wake(start: Tasks, id: TaskId, rounds: u32) 
 #[unsafe(no_mangle)]
 pub extern "C" fn bredumalt_checked_admit(start: Tasks, rounds: u32) -> u64 {
     let mut t = start;
-    let mut sum = 0u64;
-    let mut left = rounds;
-    while 0 < left {
-        left = left - 1;
-        let done = tasks::admit_on(t, 0);
-        let answer = done.answer;
-        t = done.tasks;
-        sum = sums::named(sum, answer);
-        let done = tasks::switch_on(t, 0, Kind::Yield);
-        let answer = done.answer;
-        t = done.tasks;
-        sum = sums::decided(sum, answer);
-        let done = tasks::switch_on(t, 0, Kind::Exit);
-        let answer = done.answer;
-        t = done.tasks;
-        sum = sums::decided(sum, answer);
-        let done = tasks::collect(t);
-        let answer = done.answer;
-        t = done.tasks;
-        sum = sums::named(sum, answer);
+    let mut sum = 0;
+    for _ in 0..rounds {
+        t = sums::take(&mut sum, tasks::admit_on(t, 0));
+        t = sums::take(&mut sum, tasks::switch_on(t, 0, Kind::Yield));
+        t = sums::take(&mut sum, tasks::switch_on(t, 0, Kind::Exit));
+        t = sums::take(&mut sum, tasks::collect(t));
     }
     sum
 }
@@ -124,18 +69,10 @@ pub extern "C" fn bredumalt_checked_admit(start: Tasks, rounds: u32) -> u64 {
 #[unsafe(no_mangle)]
 pub extern "C" fn bredumalt_checked_steal(start: Tasks, rounds: u32) -> u64 {
     let mut t = start;
-    let mut sum = 0u64;
-    let mut left = rounds;
-    while 0 < left {
-        left = left - 1;
-        let done = tasks::try_steal_into(t, 1);
-        let answer = done.answer;
-        t = done.tasks;
-        sum = sums::told(sum, answer);
-        let done = tasks::try_steal_into(t, 0);
-        let answer = done.answer;
-        t = done.tasks;
-        sum = sums::told(sum, answer);
+    let mut sum = 0;
+    for _ in 0..rounds {
+        t = sums::take(&mut sum, tasks::try_steal_into(t, 1));
+        t = sums::take(&mut sum, tasks::try_steal_into(t, 0));
     }
     sum
 }
@@ -149,22 +86,11 @@ pub extern "C" fn bredumalt_checked_signal(
     rounds: u32,
 ) -> u64 {
     let mut w = start;
-    let mut sum = 0u64;
-    let mut left = rounds;
-    while 0 < left {
-        left = left - 1;
-        let done = w.arm(Cookie(cookie), id);
-        let answer = done.answer;
-        w = done.table;
-        sum = sums::done(sum, answer);
-        let done = w.signal(Cookie(cookie));
-        let answer = done.answer;
-        w = done.table;
-        sum = sums::named(sum, answer);
-        let done = w.take_pending(id);
-        let answer = done.answer;
-        w = done.table;
-        sum = sums::told(sum, answer);
+    let mut sum = 0;
+    for _ in 0..rounds {
+        w = sums::take(&mut sum, w.arm(Cookie(cookie), id));
+        w = sums::take(&mut sum, w.signal(Cookie(cookie)));
+        w = sums::take(&mut sum, w.take_pending(id));
     }
     sum
 }
@@ -179,23 +105,12 @@ pub extern "C" fn bredumalt_checked_poll(
     rounds: u32,
 ) -> u64 {
     let mut d = start;
-    let mut out = [0u32; 16];
-    let mut sum = 0u64;
-    let mut left = rounds;
-    while 0 < left {
-        left = left - 1;
-        let done = d.arm(id, deadline);
-        let answer = done.answer;
-        d = done.table;
-        sum = sums::done(sum, answer);
-        let done = d.poll(before, &mut out);
-        let answer = done.answer;
-        d = done.table;
-        sum = sums::counted(sum, answer);
-        let done = d.poll(deadline, &mut out);
-        let answer = done.answer;
-        d = done.table;
-        sum = sums::counted(sum, answer);
+    let mut out = [0; 16];
+    let mut sum = 0;
+    for _ in 0..rounds {
+        d = sums::take(&mut sum, d.arm(id, deadline));
+        d = sums::take(&mut sum, d.poll(before, &mut out));
+        d = sums::take(&mut sum, d.poll(deadline, &mut out));
     }
     sum
 }
@@ -204,18 +119,10 @@ pub extern "C" fn bredumalt_checked_poll(
 #[unsafe(no_mangle)]
 pub extern "C" fn bredumalt_checked_push(start: WakeQueue, token: u32, rounds: u32) -> u64 {
     let mut q = start;
-    let mut sum = 0u64;
-    let mut left = rounds;
-    while 0 < left {
-        left = left - 1;
-        let done = q.push(Token(token));
-        let answer = done.answer;
-        q = done.queue;
-        sum = sums::told(sum, answer);
-        let done = q.pop();
-        let answer = done.answer;
-        q = done.queue;
-        sum = sums::popped(sum, answer);
+    let mut sum = 0;
+    for _ in 0..rounds {
+        q = sums::take(&mut sum, q.push(Token(token)));
+        q = sums::take(&mut sum, q.pop());
     }
     sum
 }

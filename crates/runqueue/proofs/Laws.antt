@@ -1,11 +1,11 @@
 -- What each `return` of a call on a ring has to show, said of values alone.
+use Rattle.std.specs.Prelude.{Some, None, slice_get}
 use mathlib.Core.Path.{◌≡◌, refl, sym, ◌∙◌, ap, ap₂, subst}
 use mathlib.Core.Bool.{Bool, true, false}
 use mathlib.Core.List.{List, [], ◌∷◌, ◌++◌}
-use mathlib.Core.Option.{some, none}
 use Prim.Native.Nat.{ℕ, zero, suc, ◌+◌, ◌-◌, ◌≤◌, ◌<◌}
 use native.Mathlib.Omega.{arith}
-use lib.ListN.{length, get_or, set, get_elem?}
+use lib.ListN.{length, get_or, set}
 use lib.Dec.{leb, ltb, eqb}
 use borrow.Author.Tests.{lt-ltb, le-ltb, le-leb, lt-leb, leb-true, leb-false}
 use Rattle.lists.specs.Tells.{Tells}
@@ -41,12 +41,12 @@ view-empty : (q : RunQueue) (n : ℕ) → q.span.n ≡ n → q.span.len ≡ 0 �
 view-empty q n en el = ap₂ (λ a b. ring_of a b) (view_n q ∙ en) (view-none q el)
 
 -- the entry at a place counted from the head
-get_elem_at : {A : Type 0} (l : List A) (i : ℕ) (d : A) → i < length l → get_elem? l i ≡ some (get_or l i d)
+get_elem_at : {A : Type 0} (l : List A) (i : ℕ) (d : A) → i < length l → slice_get l i ≡ Some (get_or l i d)
 get_elem_at [] i d h = absurd (omega arith)
 get_elem_at (x ∷ l) zero d h = refl
 get_elem_at (x ∷ l) (suc i) d h = get_elem_at l i d (omega arith)
 
-get_elem_past : {A : Type 0} (l : List A) (i : ℕ) → length l ≤ i → get_elem? l i ≡ none
+get_elem_past : {A : Type 0} (l : List A) (i : ℕ) → length l ≤ i → slice_get l i ≡ None
 get_elem_past [] i h = refl
 get_elem_past (x ∷ l) zero h = absurd (omega arith)
 get_elem_past (x ∷ l) (suc i) h = get_elem_past l i (omega arith)
@@ -114,16 +114,16 @@ module _ (q : RunQueue) (s : Sound q) where
       answers ring q _ _ s (λ e. let z : ◌≡◌ {A = ℕ} 0 1 = cc in omega arith)
       (ap₂ (λ a b. told (eqb a b)) (sym (view-length q)) (sym (view_n q)))
 
-  pub ready_past : (i : ℕ) → q.span.len ≤ i → Answers ring q (named none) (ready_at_reply (view q) i)
+  pub ready_past : (i : ℕ) → q.span.len ≤ i → Answers ring q (named None) (ready_at_reply (view q) i)
   ready_past i h =
       answers ring q _ _ s (λ e. let z : ◌≡◌ {A = ℕ} 0 1 = cc in omega arith)
       (ap named (sym (get_elem_past (view q).items i (omega (arith, view-length q)))))
 
-  pub ready_is : (i at : ℕ) → i < q.span.len → at ≡ placed q.span.n (q.span.head + i) → Answers ring q (named (some (id_at q.slots q.epochs at))) (ready_at_reply (view q) i)
+  pub ready_is : (i at : ℕ) → i < q.span.len → at ≡ placed q.span.n (q.span.head + i) → Answers ring q (named (Some (id_at q.slots q.epochs at))) (ready_at_reply (view q) i)
   unfolding view
   ready_is i at h e =
       answers ring q _ _ s (λ e. let z : ◌≡◌ {A = ℕ} 0 1 = cc in omega arith)
-      (ap (λ x. named (some x))
+      (ap (λ x. named (Some x))
       (ap (id_at q.slots q.epochs) (omega arith)
       ∙ sym (around-at (id_at q.slots q.epochs) q.span.n 0 q.span.head q.span.len i idle h))
       ∙ ap named (sym (get_elem_at (view q).items i idle (omega (arith, view-length q)))))
@@ -160,7 +160,7 @@ module _ (q : RunQueue) (s : Sound q) where
       let f = lt-ltb (length (view q).items) (view q).n (omega (arith, view-length q, view_n q)) in
       does ring q (put q id at l) _ _ (λ r. r) (rw f) (rw f (view-put id at l ls le h p e)) (omega arith)
 
-  pub dequeue-none : q.span.len ≡ 0 → Does ring q q (named none) (dequeue_step (view q))
+  pub dequeue-none : q.span.len ≡ 0 → Does ring q q (named None) (dequeue_step (view q))
   unfolding dequeue_of
   dequeue-none e =
       let f = view-none q e in
@@ -176,7 +176,7 @@ module _ (q : RunQueue) (s : Sound q) where
       ∙ ap₂ (λ a k. at a ∷ around at q.span.n 0 k l) (omega arith) (sym e)
 
   pub dequeue-done : (h l : ℕ) → (q.span.len ≡ 0 → ⊥) → h ≡ placed q.span.n (q.span.head + 1) → l ≡ q.span.len - 1
-      → Does ring q (cut q h l) (named (some (id_at q.slots q.epochs q.span.head))) (dequeue_step (view q))
+      → Does ring q (cut q h l) (named (Some (id_at q.slots q.epochs q.span.head))) (dequeue_step (view q))
   unfolding dequeue_of
   dequeue-done h l more e f =
       let v = view-split h l more e f in
@@ -191,7 +191,7 @@ unfolding dequeue_of
 dequeue-tells n [] r = r
 dequeue-tells n (x ∷ l) r = r
 
-pub after_none : (q u : RunQueue) (got : Reply) → Does ring q u got (dequeue_step (view q)) → Does ring q u got (after_yield_step (view q) none)
+pub after_none : (q u : RunQueue) (got : Reply) → Does ring q u got (dequeue_step (view q)) → Does ring q u got (after_yield_step (view q) None)
 unfolding after_yield_step
 after_none q u got d = d
 
@@ -200,20 +200,20 @@ module _ (q : RunQueue) (id : TaskId) (p : RunQueue) where
   room : Bool
   room = ltb (length (view q).items) (view q).n
 
-  pub after-full : (k : ℕ) → Does ring q p (refused k) (enqueue_step (view q) id) → Does ring q p (refused k) (after_yield_step (view q) (some id))
+  pub after-full : (k : ℕ) → Does ring q p (refused k) (enqueue_step (view q) id) → Does ring q p (refused k) (after_yield_step (view q) (Some id))
   unfolding after_yield_step enqueue_step room
   after-full k d = go room refl
     where
-      go : (b : Bool) → room ≡ b → Does ring q p (refused k) (after_yield_step (view q) (some id))
+      go : (b : Bool) → room ≡ b → Does ring q p (refused k) (after_yield_step (view q) (Some id))
       go true f = let e = rw f at d.makes.reply in let z : ◌≡◌ {A = ℕ} 0 1 = cc in absurd (omega arith)
       go false f = rw f (rw f at d)
 
   pub after-put : (u : RunQueue) (got : Reply) → Does ring q p done (enqueue_step (view q) id) → Does ring p u got (dequeue_step (view p))
-      → Does ring q u got (after_yield_step (view q) (some id))
+      → Does ring q u got (after_yield_step (view q) (Some id))
   unfolding after_yield_step enqueue_step room
   after-put u got d e = go room refl
     where
-      go : (b : Bool) → room ≡ b → Does ring q u got (after_yield_step (view q) (some id))
+      go : (b : Bool) → room ≡ b → Does ring q u got (after_yield_step (view q) (Some id))
       go true f =
           let v : view p ≡ ring_of (view q).n ((view q).items ++ (id ∷ [])) = rw f at d.makes.after in
           let m : Makes ring u got (dequeue_of (view q).n ((view q).items ++ (id ∷ []))) = subst (λ w. Makes ring u got (dequeue_step w)) v e.makes in

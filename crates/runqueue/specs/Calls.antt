@@ -1,6 +1,5 @@
 -- The calls on a ring, for lists of calls.
-use Rattle.std.proofs.Math.Option.{Option}
-use Rattle.std.specs.Prelude.{ℕ}
+use Rattle.std.specs.Prelude.{ℕ, Option}
 use Rattle.ids.specs.declared.TaskId.{TaskId}
 use Rattle.answers.specs.Contract.{Step}
 use Rattle.runqueue.specs.Ring.{Ring}

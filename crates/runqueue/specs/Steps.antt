@@ -1,18 +1,10 @@
 -- What each call on a ring answers, and what it leaves.
-use Rattle.std.specs.Prelude.{cond, List, [], ◌∷◌, ◌++◌, ℕ, length, ltb, eqb}
-use Rattle.std.proofs.Math.Option.{Option, some, none}
-use Rattle.std.proofs.Math.ListN.{get_elem?}
+use Rattle.std.specs.Prelude.{cond, List, [], ◌∷◌, ◌++◌, ℕ, length, ltb, eqb, Option, Some, None, slice_get}
 use Rattle.ids.specs.declared.TaskId.{TaskId}
 use Rattle.answers.specs.Reply.{Reply, done, told, number, named}
 use Rattle.answers.specs.Contract.{Step, refusing}
 use Rattle.answers.specs.Sizes.{listed}
-use Rattle.runqueue.specs.declared.Requeue as requeue
-use Rattle.runqueue.specs.declared.Requeue.TheVariants as requeue-of
 use Rattle.runqueue.specs.Ring.{Ring}
-
-abbrev pub requeued : requeue.Requeue → Option TaskId
-requeued (requeue-of.Id t) = some t
-requeued requeue-of.Nothing = none
 
 abbrev pub ring_of : ℕ → List TaskId → Ring
 ring_of n l = record { n = n; items = l }
@@ -34,7 +26,7 @@ abbrev pub full_reply : Ring → Reply
 full_reply q = told (eqb (length q.items) q.n)
 
 abbrev pub ready_at_reply : Ring → ℕ → Reply
-ready_at_reply q i = named (get_elem? q.items i)
+ready_at_reply q i = named (slice_get q.items i)
 
 abbrev pub front_reply : Ring → Reply
 front_reply q = ready_at_reply q 0
@@ -45,13 +37,13 @@ enqueue_step q id = cond (ltb (length q.items) q.n) (record { reply = done; afte
 
 -- the head, of what is queued
 unfoldable pub dequeue_of : ℕ → List TaskId → Step Ring
-dequeue_of n [] = record { reply = named none; after = ring_of n [] }
-dequeue_of n (x ∷ l) = record { reply = named (some x); after = ring_of n l }
+dequeue_of n [] = record { reply = named None; after = ring_of n [] }
+dequeue_of n (x ∷ l) = record { reply = named (Some x); after = ring_of n l }
 
 abbrev pub dequeue_step : Ring → Step Ring
 dequeue_step q = dequeue_of q.n q.items
 
 -- one that goes on joins the tail first, or 11 Full where n are held already; then the head
 unfoldable pub after_yield_step : Ring → Option TaskId → Step Ring
-after_yield_step q none = dequeue_step q
-after_yield_step q (some id) = cond (ltb (length q.items) q.n) (dequeue_of q.n (q.items ++ (id ∷ []))) (refusing 11 q)
+after_yield_step q None = dequeue_step q
+after_yield_step q (Some id) = cond (ltb (length q.items) q.n) (dequeue_of q.n (q.items ++ (id ∷ []))) (refusing 11 q)

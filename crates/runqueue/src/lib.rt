@@ -8,14 +8,14 @@ ghost use Rattle.answers.specs.Answers.{ack_reply, told_reply, count_reply, name
 ghost use Rattle.answers.specs.Contract.{Makes, Meets, Answers};
 ghost use Rattle.runqueue.specs.Ring.{placed, view, Fit, Sound, ring};
 ghost use Rattle.runqueue.specs.Lent.{lent, MakesLent, DoesLent, MeetsLent, AnswersLent, AnswersAny};
-ghost use Rattle.runqueue.specs.Steps.{requeued, new_step, enqueue_step, dequeue_step, after_yield_step, front_reply, ready_at_reply, len_reply, empty_reply, full_reply, capacity_reply};
+ghost use Rattle.runqueue.specs.Steps.{new_step, enqueue_step, dequeue_step, after_yield_step, front_reply, ready_at_reply, len_reply, empty_reply, full_reply, capacity_reply};
 
-use answers::{Ack, Count, Named, Refusal, Told};
+use answers::{Answered, Refusal};
 use ids::TaskId;
 
 // The ring without its entries: how many places count, where the head is, how many are queued.
 #[repr(C)]
-#[derive(Clone, Copy)]
+#[derive(Clone, Copy, Debug, PartialEq, Eq)]
 pub struct Span {
     pub n: usize,
     pub head: usize,
@@ -31,265 +31,194 @@ pub struct RunQueue {
     pub epochs: [u16; 64],
 }
 
-// A ring, beside what the call that made or filled it answers.
-#[derive(Clone, Copy)]
-pub struct Queued {
-    pub queue: RunQueue,
-    pub answer: Ack,
-}
-
-// A ring, beside the task that was taken from it.
-#[derive(Clone, Copy)]
-pub struct Taken {
-    pub queue: RunQueue,
-    pub answer: Named,
-}
-
-// The same of a call whose entries are lent: they are changed where they lie, and the span comes back.
-#[derive(Clone, Copy)]
-pub struct LentAck {
-    pub span: Span,
-    pub answer: Ack,
-}
-
-#[derive(Clone, Copy)]
-pub struct LentNamed {
-    pub span: Span,
-    pub answer: Named,
-}
-
-// Who goes to the tail before the head is taken.
-#[derive(Clone, Copy)]
-pub enum Requeue {
-    Id(TaskId),
-    Nothing,
-}
-
 // Where a count of places from the start of a ring of n lies. Every wrap of every ring is computed here; counts stay below
 // 2n, so a subtraction does what a division would.
 pub fn place(n: usize, x: usize) -> usize
     requires { x < n + n }
     ensures { (result ≡ placed n x) × (result < n) }
 {
-    if x < n {
-        return x;
-    }
-    x - n
+    if x < n { x } else { x - n }
 }
 
 // Whether a ring, and a task table, can have n places.
 pub fn is_listed(n: usize) -> bool
     ensures { result ≡ listed n }
 {
-    if n < 1 {
-        return false;
-    }
-    n <= 64
+    1 <= n && n <= 64
 }
 
-// The test of a ring's numbers: its entries may be anything.
-fn is_fit(n: usize, head: usize, len: usize) -> bool
-    ensures { Tells result (Fit n head len) }
-{
-    if !is_listed(n) {
-        return false;
-    }
-    if n <= head {
-        return false;
-    }
-    len <= n
-}
-
-// An array that is lent as a slice tells the proof its size, which a reference to an array does not. It compiles to nothing.
-fn sized(slots: &[u16], epochs: &[u16]) {}
-
-fn new_span(n: usize) -> Span
-    ensures { result ≡ record { n = n; head = 0; len = 0 } }
-{
-    Span {
-        n: n,
-        head: 0,
-        len: 0,
+impl Span {
+    fn empty(n: usize) -> Span
+        ensures { result ≡ record { n = n; head = 0; len = 0 } }
+    {
+        Span { n, head: 0, len: 0 }
     }
 }
 
 // A ring is made where its entries lie; beside BadSize what lay there stays.
-pub fn new_at(slots: &mut [u16; 64], epochs: &mut [u16; 64], span: Span, n: usize) -> LentAck
-    ensures { MakesLent slots epochs span result.span (ack_reply result.answer) (new_step n) }
+pub fn new_at(
+    slots: &mut [u16; 64],
+    epochs: &mut [u16; 64],
+    span: &mut Span,
+    n: usize,
+) -> Result<(), Refusal>
+    ensures { MakesLent slots epochs span.old span.new (ack_reply result) (new_step n) }
 {
     if !is_listed(n) {
-        return LentAck {
-            span: span,
-            answer: Ack::Refused(Refusal::BadSize),
-        };
+        return Err(Refusal::BadSize);
     }
     *slots = [0; 64];
     *epochs = [0; 64];
-    LentAck {
-        span: new_span(n),
-        answer: Ack::Done,
-    }
+    *span = Span::empty(n);
+    Ok(())
 }
 
-// INNER CALLS: the entries are lent, and the caller knows the ring to be sound
+// INNER CALLS: the ring is lent, and the caller knows it to be sound
 
-fn enqueue_in(slots: &mut [u16; 64], epochs: &mut [u16; 64], mut span: Span, id: TaskId) -> LentAck
-    requires { Sound (lent slots epochs span) }
-    ensures { DoesLent slots epochs span result.span (ack_reply result.answer) (λ q. enqueue_step q id) }
+fn enqueue_in(
+    slots: &mut [u16; 64],
+    epochs: &mut [u16; 64],
+    span: &mut Span,
+    id: TaskId,
+) -> Result<(), Refusal>
+    requires { Sound (lent slots epochs span.old) }
+    ensures { DoesLent slots epochs span.old span.new (ack_reply result) (λ q. enqueue_step q id) }
 {
-    let len = span.len;
-    if span.n <= len {
-        return LentAck {
-            span: span,
-            answer: Ack::Refused(Refusal::Full),
-        };
+    if span.n <= span.len {
+        return Err(Refusal::Full);
     }
-    let tail = place(span.n, span.head + len);
-    sized(slots, epochs);
+    let tail = place(span.n, span.head + span.len);
     slots[tail] = id.slot;
     epochs[tail] = id.epoch;
-    span.len = len + 1;
-    LentAck {
-        span: span,
-        answer: Ack::Done,
-    }
+    span.len += 1;
+    Ok(())
 }
 
-fn dequeue_in(slots: &mut [u16; 64], epochs: &mut [u16; 64], mut span: Span) -> LentNamed
-    requires { Sound (lent slots epochs span) }
-    ensures { DoesLent slots epochs span result.span (named_reply result.answer) dequeue_step }
+fn dequeue_in(
+    slots: &mut [u16; 64],
+    epochs: &mut [u16; 64],
+    span: &mut Span,
+) -> Result<Option<TaskId>, Refusal>
+    requires { Sound (lent slots epochs span.old) }
+    ensures { DoesLent slots epochs span.old span.new (named_reply result) dequeue_step }
 {
-    let len = span.len;
-    if len == 0 {
-        return LentNamed {
-            span: span,
-            answer: Named::Nothing,
-        };
+    if span.len == 0 {
+        return Ok(None);
     }
     let head = span.head;
-    let slot = slots[head];
-    let epoch = epochs[head];
-    let id = TaskId {
-        slot: slot,
-        epoch: epoch,
-    };
     span.head = place(span.n, head + 1);
-    span.len = len - 1;
-    LentNamed {
-        span: span,
-        answer: Named::Id(id),
-    }
+    span.len -= 1;
+    Ok(Some(TaskId {
+        slot: slots[head],
+        epoch: epochs[head],
+    }))
 }
 
 fn after_yield_in(
     slots: &mut [u16; 64],
     epochs: &mut [u16; 64],
-    span: Span,
-    requeue: Requeue,
-) -> LentNamed
-    requires { Sound (lent slots epochs span) }
-    ensures { DoesLent slots epochs span result.span (named_reply result.answer) (λ q. after_yield_step q (requeued requeue)) }
+    span: &mut Span,
+    requeue: Option<TaskId>,
+) -> Result<Option<TaskId>, Refusal>
+    requires { Sound (lent slots epochs span.old) }
+    ensures { DoesLent slots epochs span.old span.new (named_reply result) (λ q. after_yield_step q requeue) }
 {
-    match requeue {
-        Requeue::Nothing => dequeue_in(slots, epochs, span),
-        Requeue::Id(id) => {
-            let put = enqueue_in(slots, epochs, span, id);
-            let answer = put.answer;
-            let queue = put.span;
-            match answer {
-                Ack::Refused(why) => LentNamed {
-                    span: queue,
-                    answer: Named::Refused(why),
-                },
-                Ack::Done => dequeue_in(slots, epochs, queue),
-            }
-        }
-    }
+    let Some(id) = requeue else {
+        return dequeue_in(slots, epochs, span);
+    };
+    enqueue_in(slots, epochs, span, id)?;
+    dequeue_in(slots, epochs, span)
 }
 
-// CALLS OF THE PRODUCT ON LENT ENTRIES: the test, then 1 or the inner call. Some ask for the span alone, whatever the entries are.
+// CALLS OF THE PRODUCT ON A RING THAT IS LENT: the test, then 1 or the inner call. Some ask for the span alone, whatever the entries are.
 
 pub fn sound_at(span: Span) -> bool
     ensures { Tells result (Fit span.n span.head span.len) }
 {
-    is_fit(span.n, span.head, span.len)
+    is_listed(span.n) && span.head < span.n && span.len <= span.n
 }
 
-pub fn capacity_at(span: Span) -> Count
+pub fn capacity_at(span: Span) -> Result<u64, Refusal>
     ensures { AnswersAny span (count_reply result) capacity_reply }
 {
     if !sound_at(span) {
-        return Count::Refused(Refusal::BadTable);
+        return Err(Refusal::BadTable);
     }
-    Count::Is(span.n as u64)
+    Ok(span.n as u64)
 }
 
-pub fn len_at(span: Span) -> Count
+pub fn len_at(span: Span) -> Result<u64, Refusal>
     ensures { AnswersAny span (count_reply result) len_reply }
 {
     if !sound_at(span) {
-        return Count::Refused(Refusal::BadTable);
+        return Err(Refusal::BadTable);
     }
-    Count::Is(span.len as u64)
+    Ok(span.len as u64)
 }
 
-pub fn is_empty_at(span: Span) -> Told
+pub fn is_empty_at(span: Span) -> Result<bool, Refusal>
     ensures { AnswersAny span (told_reply result) empty_reply }
 {
     if !sound_at(span) {
-        return Told::Refused(Refusal::BadTable);
+        return Err(Refusal::BadTable);
     }
-    Told::Is(span.len == 0)
+    Ok(span.len == 0)
 }
 
-pub fn is_full_at(span: Span) -> Told
+pub fn is_full_at(span: Span) -> Result<bool, Refusal>
     ensures { AnswersAny span (told_reply result) full_reply }
 {
     if !sound_at(span) {
-        return Told::Refused(Refusal::BadTable);
+        return Err(Refusal::BadTable);
     }
-    Told::Is(span.len == span.n)
+    Ok(span.len == span.n)
 }
 
 // The entry at a place counted from the head.
-pub fn entry_at<'a>(slots: &'a [u16; 64], epochs: &'a [u16; 64], span: Span, index: usize) -> Named
+pub fn entry_at<'a>(
+    slots: &'a [u16; 64],
+    epochs: &'a [u16; 64],
+    span: Span,
+    index: usize,
+) -> Result<Option<TaskId>, Refusal>
     ensures { AnswersLent slots epochs span (named_reply result) (λ q. ready_at_reply q index) }
 {
     if !sound_at(span) {
-        return Named::Refused(Refusal::BadTable);
+        return Err(Refusal::BadTable);
     }
     if span.len <= index {
-        return Named::Nothing;
+        return Ok(None);
     }
     let at = place(span.n, span.head + index);
-    let slot = slots[at];
-    let epoch = epochs[at];
-    Named::Id(TaskId {
-        slot: slot,
-        epoch: epoch,
-    })
+    Ok(Some(TaskId {
+        slot: slots[at],
+        epoch: epochs[at],
+    }))
 }
 
-pub fn enqueue_at(slots: &mut [u16; 64], epochs: &mut [u16; 64], span: Span, id: TaskId) -> LentAck
-    ensures { MeetsLent slots epochs span result.span (ack_reply result.answer) (λ q. enqueue_step q id) }
+pub fn enqueue_at(
+    slots: &mut [u16; 64],
+    epochs: &mut [u16; 64],
+    span: &mut Span,
+    id: TaskId,
+) -> Result<(), Refusal>
+    ensures { MeetsLent slots epochs span.old span.new (ack_reply result) (λ q. enqueue_step q id) }
 {
-    if !sound_at(span) {
-        return LentAck {
-            span: span,
-            answer: Ack::Refused(Refusal::BadTable),
-        };
+    if !sound_at(*span) {
+        return Err(Refusal::BadTable);
     }
     enqueue_in(slots, epochs, span, id)
 }
 
-pub fn dequeue_at(slots: &mut [u16; 64], epochs: &mut [u16; 64], span: Span) -> LentNamed
-    ensures { MeetsLent slots epochs span result.span (named_reply result.answer) dequeue_step }
+pub fn dequeue_at(
+    slots: &mut [u16; 64],
+    epochs: &mut [u16; 64],
+    span: &mut Span,
+) -> Result<Option<TaskId>, Refusal>
+    ensures { MeetsLent slots epochs span.old span.new (named_reply result) dequeue_step }
 {
-    if !sound_at(span) {
-        return LentNamed {
-            span: span,
-            answer: Named::Refused(Refusal::BadTable),
-        };
+    if !sound_at(*span) {
+        return Err(Refusal::BadTable);
     }
     dequeue_in(slots, epochs, span)
 }
@@ -297,34 +226,31 @@ pub fn dequeue_at(slots: &mut [u16; 64], epochs: &mut [u16; 64], span: Span) -> 
 pub fn after_yield_at(
     slots: &mut [u16; 64],
     epochs: &mut [u16; 64],
-    span: Span,
-    requeue: Requeue,
-) -> LentNamed
-    ensures { MeetsLent slots epochs span result.span (named_reply result.answer) (λ q. after_yield_step q (requeued requeue)) }
+    span: &mut Span,
+    requeue: Option<TaskId>,
+) -> Result<Option<TaskId>, Refusal>
+    ensures { MeetsLent slots epochs span.old span.new (named_reply result) (λ q. after_yield_step q requeue) }
 {
-    if !sound_at(span) {
-        return LentNamed {
-            span: span,
-            answer: Named::Refused(Refusal::BadTable),
-        };
+    if !sound_at(*span) {
+        return Err(Refusal::BadTable);
     }
     after_yield_in(slots, epochs, span, requeue)
 }
 
 impl RunQueue {
     // An empty ring; beside BadSize an empty ring of one place.
-    pub fn new(n: usize) -> Queued
-        ensures { Makes ring result.queue (ack_reply result.answer) (new_step n) }
+    pub fn new(n: usize) -> Answered<RunQueue, ()>
+        ensures { Makes ring result.table (ack_reply result.answer) (new_step n) }
     {
         if !is_listed(n) {
-            return Queued {
-                queue: RunQueue::empty(1),
-                answer: Ack::Refused(Refusal::BadSize),
+            return Answered {
+                table: RunQueue::empty(1),
+                answer: Err(Refusal::BadSize),
             };
         }
-        Queued {
-            queue: RunQueue::empty(n),
-            answer: Ack::Done,
+        Answered {
+            table: RunQueue::empty(n),
+            answer: Ok(()),
         }
     }
 
@@ -332,7 +258,7 @@ impl RunQueue {
         ensures { result.span ≡ record { n = n; head = 0; len = 0 } }
     {
         RunQueue {
-            span: new_span(n),
+            span: Span::empty(n),
             slots: [0; 64],
             epochs: [0; 64],
         }
@@ -344,99 +270,75 @@ impl RunQueue {
         sound_at(self.span)
     }
 
-    pub fn capacity(self) -> Count
+    pub fn capacity(self) -> Result<u64, Refusal>
         ensures { Answers ring self (count_reply result) (capacity_reply (view self)) }
     {
         capacity_at(self.span)
     }
 
-    pub fn len(self) -> Count
+    pub fn len(self) -> Result<u64, Refusal>
         ensures { Answers ring self (count_reply result) (len_reply (view self)) }
     {
         len_at(self.span)
     }
 
-    pub fn is_empty(self) -> Told
+    pub fn is_empty(self) -> Result<bool, Refusal>
         ensures { Answers ring self (told_reply result) (empty_reply (view self)) }
     {
         is_empty_at(self.span)
     }
 
-    pub fn is_full(self) -> Told
+    pub fn is_full(self) -> Result<bool, Refusal>
         ensures { Answers ring self (told_reply result) (full_reply (view self)) }
     {
         is_full_at(self.span)
     }
 
     // The head, left where it is.
-    pub fn front(self) -> Named
+    pub fn front(self) -> Result<Option<TaskId>, Refusal>
         ensures { Answers ring self (named_reply result) (front_reply (view self)) }
     {
         self.ready_at(0)
     }
 
     // The entry at a place counted from the head: for every place in turn, all that is queued.
-    pub fn ready_at(self, index: usize) -> Named
+    pub fn ready_at(self, index: usize) -> Result<Option<TaskId>, Refusal>
         ensures { Answers ring self (named_reply result) (ready_at_reply (view self) index) }
     {
         entry_at(&self.slots, &self.epochs, self.span, index)
     }
 
     // Puts a task at the tail.
-    pub fn enqueue(self, id: TaskId) -> Queued
-        ensures { Meets ring self result.queue (ack_reply result.answer) (enqueue_step (view self) id) }
+    pub fn enqueue(mut self, id: TaskId) -> Answered<RunQueue, ()>
+        ensures { Meets ring self result.table (ack_reply result.answer) (enqueue_step (view self) id) }
     {
-        let mut slots = self.slots;
-        let mut epochs = self.epochs;
-        let done = enqueue_at(&mut slots, &mut epochs, self.span, id);
-        let span = done.span;
-        let answer = done.answer;
-        Queued {
-            queue: RunQueue {
-                span: span,
-                slots: slots,
-                epochs: epochs,
-            },
-            answer: answer,
+        let answer = enqueue_at(&mut self.slots, &mut self.epochs, &mut self.span, id);
+        Answered {
+            table: self,
+            answer,
         }
     }
 
     // Takes the head.
-    pub fn dequeue(self) -> Taken
-        ensures { Meets ring self result.queue (named_reply result.answer) (dequeue_step (view self)) }
+    pub fn dequeue(mut self) -> Answered<RunQueue, Option<TaskId>>
+        ensures { Meets ring self result.table (named_reply result.answer) (dequeue_step (view self)) }
     {
-        let mut slots = self.slots;
-        let mut epochs = self.epochs;
-        let done = dequeue_at(&mut slots, &mut epochs, self.span);
-        let span = done.span;
-        let answer = done.answer;
-        Taken {
-            queue: RunQueue {
-                span: span,
-                slots: slots,
-                epochs: epochs,
-            },
-            answer: answer,
+        let answer = dequeue_at(&mut self.slots, &mut self.epochs, &mut self.span);
+        Answered {
+            table: self,
+            answer,
         }
     }
 
     // Puts the one that goes on to the tail, if any, and takes the head. Whether there is room is asked first, so a
     // full ring refuses although the head is about to leave.
-    pub fn after_yield(self, requeue: Requeue) -> Taken
-        ensures { Meets ring self result.queue (named_reply result.answer) (after_yield_step (view self) (requeued requeue)) }
+    pub fn after_yield(mut self, requeue: Option<TaskId>) -> Answered<RunQueue, Option<TaskId>>
+        ensures { Meets ring self result.table (named_reply result.answer) (after_yield_step (view self) requeue) }
     {
-        let mut slots = self.slots;
-        let mut epochs = self.epochs;
-        let done = after_yield_at(&mut slots, &mut epochs, self.span, requeue);
-        let span = done.span;
-        let answer = done.answer;
-        Taken {
-            queue: RunQueue {
-                span: span,
-                slots: slots,
-                epochs: epochs,
-            },
-            answer: answer,
+        let answer = after_yield_at(&mut self.slots, &mut self.epochs, &mut self.span, requeue);
+        Answered {
+            table: self,
+            answer,
         }
     }
 }

@@ -2,10 +2,7 @@
 -- for every kind of table. The other public calls take no table: a contract of `ids` is an equation for the value itself, and for
 -- `lifecycle` see its `Once`. Outcomes are compared by their replies; equal replies are equal answers of the code (`Apart` in
 -- `answers`, `wake` and `switch`).
-use mathlib.Core.Path.{◌≡◌, sym, ◌∙◌, ap}
-use mathlib.Core.Bool.{Bool, true, false}
-use mathlib.Core.Logic.{⊎_elim}
-use Prim.Native.Nat.{ℕ}
+use Rattle.std.proofs.Common.{◌≡◌, ℕ, Bool, true, false, sym, ap, ◌∙◌, ⊎_elim}
 use Rattle.lists.specs.Tells.{Tells}
 use Rattle.lists.proofs.Basics.{true_or_false}
 use Rattle.answers.specs.Reply.{Reply}

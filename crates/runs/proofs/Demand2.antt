@@ -1,9 +1,5 @@
--- Demand 2: whatever the contracts admit, over any calls, is the model's run. On the four tables, and on a ring alone.
-use mathlib.Core.Path.{◌≡◌, ◌∙◌, ap, subst}
-use mathlib.Core.Bool.{Bool, cond, ◌&&◌}
-use mathlib.Core.List.{List, []}
-use Prim.Native.Nat.{ℕ}
-use lib.Dec.{leb}
+-- Whatever the contracts admit, over any calls, is the model's run. On the four tables, and on a ring alone.
+use Rattle.std.proofs.Common.{◌≡◌, ℕ, Bool, cond, ◌&&◌, leb, List, [], ap, ◌∙◌, subst}
 use Rattle.answers.specs.Reply.{Reply, done}
 use Rattle.answers.specs.Contract.{Step, Makes, Meets, put, refusing}
 use Rattle.answers.specs.Run.{Outcome, Admitted, CallMeets, Follows, Kept}

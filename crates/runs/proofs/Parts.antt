@@ -1,5 +1,5 @@
 -- The four tables, each as a part of them all; the deadlines also with the output that a poll is lent.
-use mathlib.Core.Path.{refl}
+use Rattle.std.proofs.Common.{refl}
 use Rattle.answers.specs.Contract.{lent}
 use Rattle.answers.proofs.Part.{Part}
 use Rattle.memory.specs.View as tasks-kind

@@ -1,8 +1,6 @@
 -- The task table that calls on the four tables leave is the one that those on the task table leave, and likewise the wake queue. So
 -- what is proved of a table after calls on it (its counters; `drops` here) holds after calls on all four.
-use mathlib.Core.Path.{◌≡◌, refl, ◌∙◌, ap}
-use mathlib.Core.List.{List, [], ◌∷◌}
-use Prim.Native.Nat.{ℕ, ◌%◌}
+use Rattle.std.proofs.Common.{◌≡◌, ℕ, ◌%◌, List, [], ◌∷◌, refl, ap, ◌∙◌}
 use Rattle.answers.specs.Run.{left}
 use Rattle.model.specs.Calls as task
 use Rattle.parktime.specs.Calls as deadline

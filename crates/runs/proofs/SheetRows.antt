@@ -1,5 +1,5 @@
 -- The bench sheet, A1 to A10: every row of its table holds of the functions that the contracts cite.
-use mathlib.Core.Path.{refl}
+use Rattle.std.proofs.Common.{refl}
 use Rattle.lists.specs.Each.{Each}
 use Rattle.lists.specs.Tab.{tab}
 use Rattle.lists.specs.Search.{first_at, count_of, any_of}

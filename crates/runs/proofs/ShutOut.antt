@@ -1,10 +1,6 @@
--- Document 01, "What the contracts have to nail": programs that no run admits, told apart by an answer or by a table.
-use mathlib.Core.Path.{◌≡◌, refl, sym, ◌∙◌, ap}
-use mathlib.Core.List.{List, [], ◌∷◌}
-use mathlib.Core.Option.{some, none}
-use Prim.Native.Nat.{ℕ}
-use native.Mathlib.Omega.{arith}
-use lib.ListN.{get_or}
+-- Programs that no run admits, told apart by an answer or by a table.
+use Rattle.std.specs.Prelude.{Some, None}
+use Rattle.std.proofs.Common.{◌≡◌, ℕ, List, [], ◌∷◌, get_or, sym, refl, ap, ◌∙◌, arith}
 use Rattle.lists.specs.Tab.{tab}
 use Rattle.lists.specs.Search.{first_at, count_of}
 use Rattle.ids.specs.declared.TaskId.{TaskId}
@@ -24,21 +20,21 @@ abbrev two_yields : List Call
 two_yields = on_tasks task.start ∷ on_tasks (task.admit 0) ∷ on_tasks (task.switch 0 yield) ∷ on_tasks (task.switch 0 yield) ∷ []
 
 abbrev to_one : Reply
-to_one = switched (id 0 0) (id 1 0) none
+to_one = switched (id 0 0) (id 1 0) None
 
 abbrev to-idle : Reply
-to-idle = switched (id 1 0) (id 0 0) none
+to-idle = switched (id 1 0) (id 0 0) None
 
-right_answers : replies step (fresh 4 32) two_yields ≡ done ∷ named (some (id 1 0)) ∷ to_one ∷ to-idle ∷ []
+right_answers : replies step (fresh 4 32) two_yields ≡ done ∷ named (Some (id 1 0)) ∷ to_one ∷ to-idle ∷ []
 unfolding replies step task.step start_step claimed admit_step admitted free_slot first_at count_of tab switch_step switch_on pulls turn leaves chooses enters parks
 right_answers = refl
 
 module _ (t : Memory) (made : Made 4 32 t) (os : List (Outcome Memory)) (run : Admitted Admits t two_yields os) where
-  answers_are : said os ≡ done ∷ named (some (id 1 0)) ∷ to_one ∷ to-idle ∷ []
+  answers_are : said os ≡ done ∷ named (Some (id 1 0)) ∷ to_one ∷ to-idle ∷ []
   answers_are = (demand2 4 32 t made two_yields os run).replies_are ∙ right_answers
 
   -- honest on the first switch, then Stay
-  pub not_stay_later : said os ≡ done ∷ named (some (id 1 0)) ∷ to_one ∷ stays ∷ [] → ⊥
+  pub not_stay_later : said os ≡ done ∷ named (Some (id 1 0)) ∷ to_one ∷ stays ∷ [] → ⊥
   not_stay_later e = let f = sym answers_are ∙ e in let z : ◌≡◌ {A = ℕ} 0 1 = cc in omega arith
 
   -- one constant decision, whichever, for both switches, after whatever answers

@@ -1,5 +1,5 @@
 -- Each call of a run is the public call of its name.
-use mathlib.Core.Path.{refl}
+use Rattle.std.proofs.Common.{refl}
 use Rattle.model.specs.Model.{Model}
 use Rattle.model.specs.Calls as task
 use Rattle.irqwait.specs.Waits.{Waits}

@@ -1,6 +1,5 @@
--- Document 01's bench sheet, A1 to A10: what each line of it says, as a row of one table. All begin fresh.
-use Rattle.std.specs.Prelude.{◌≡◌, true, false, List, [], ◌∷◌, map, ℕ, replicate}
-use Rattle.std.proofs.Math.Option.{some, none}
+-- The bench sheet, A1 to A10: what each line of it says, as a row of one table. All begin fresh.
+use Rattle.std.specs.Prelude.{◌≡◌, true, false, List, [], ◌∷◌, map, ℕ, replicate, Some, None}
 use Rattle.ids.specs.declared.TaskId.{TaskId}
 use Rattle.ids.specs.Id.{packed}
 use Rattle.answers.specs.Reply.{Reply, refused, done, told, number, named, value, stays, switched}
@@ -31,7 +30,7 @@ abbrev pub id : ℕ → ℕ → TaskId
 id s e = record { slot = s; epoch = e }
 
 abbrev gives : ℕ → ℕ → Reply
-gives s e = named (some (id s e))
+gives s e = named (Some (id s e))
 
 -- N 8, start, admit four
 abbrev four : List Call → List Call
@@ -48,7 +47,7 @@ sheet =
     -- A2
     ∷ answers 4 32
     (on_tasks start ∷ on_tasks (admit 0) ∷ on_tasks (switch 0 yield) ∷ on_tasks (switch 0 exit) ∷ on_tasks (admit 0) ∷ on_tasks collect ∷ on_tasks (admit 0) ∷ [])
-    (done ∷ gives 1 0 ∷ switched (id 0 0) (id 1 0) none ∷ switched (id 1 0) (id 0 0) none ∷ gives 2 0 ∷ gives 1 0 ∷ gives 1 1 ∷ [])
+    (done ∷ gives 1 0 ∷ switched (id 0 0) (id 1 0) None ∷ switched (id 1 0) (id 0 0) None ∷ gives 2 0 ∷ gives 1 0 ∷ gives 1 1 ∷ [])
     -- A3
     ∷ queues 8 32
     (four (on_tasks (mark (id 3 0) true) ∷ on_tasks (steal 1) ∷ []))
@@ -62,15 +61,15 @@ sheet =
     -- A5
     ∷ answers 8 32
     (on_tasks start ∷ on_tasks start1 ∷ on_tasks (admit 0) ∷ on_tasks (mark (id 2 0) true) ∷ on_tasks (switch 1 preempt) ∷ on_tasks (read (home (id 2 0))) ∷ on_tasks (switch 1 yield) ∷ [])
-    (done ∷ gives 1 0 ∷ gives 2 0 ∷ told true ∷ stays ∷ value (some 1) ∷ switched (id 1 0) (id 2 0) none ∷ [])
+    (done ∷ gives 1 0 ∷ gives 2 0 ∷ told true ∷ stays ∷ value (Some 1) ∷ switched (id 1 0) (id 2 0) None ∷ [])
     -- A6
     ∷ answers 4 32
     (on_tasks start ∷ on_tasks (admit 0) ∷ on_tasks (admit 0) ∷ on_tasks (switch 0 yield) ∷ on_tasks (switch 0 yield) ∷ on_tasks (switch 0 yield) ∷ [])
-    (done ∷ gives 1 0 ∷ gives 2 0 ∷ switched (id 0 0) (id 1 0) none ∷ switched (id 1 0) (id 2 0) none ∷ switched (id 2 0) (id 0 0) none ∷ [])
+    (done ∷ gives 1 0 ∷ gives 2 0 ∷ switched (id 0 0) (id 1 0) None ∷ switched (id 1 0) (id 2 0) None ∷ switched (id 2 0) (id 0 0) None ∷ [])
     -- A7
     ∷ answers 4 32
     (on_tasks start ∷ on_tasks (admit 0) ∷ on_tasks (admit 0) ∷ on_tasks (switch 0 yield) ∷ on_tasks (switch 0 exit) ∷ on_tasks (switch 0 exit) ∷ on_tasks (read overwrites) ∷ [])
-    (done ∷ gives 1 0 ∷ gives 2 0 ∷ switched (id 0 0) (id 1 0) none ∷ switched (id 1 0) (id 2 0) none ∷ switched (id 2 0) (id 0 0) (some (id 1 0)) ∷ number 1 ∷ [])
+    (done ∷ gives 1 0 ∷ gives 2 0 ∷ switched (id 0 0) (id 1 0) None ∷ switched (id 1 0) (id 2 0) None ∷ switched (id 2 0) (id 0 0) (Some (id 1 0)) ∷ number 1 ∷ [])
     -- A8
     ∷ answers 57 4
     (on_wakes (token.push 7) ∷ on_wakes (token.push 8) ∷ on_wakes (token.push 9) ∷ on_wakes (token.push 10) ∷ on_wakes token.drops ∷ [])

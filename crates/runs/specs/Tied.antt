@@ -1,8 +1,7 @@
 -- The step that a run takes for a call is the function that the contract of the public call of that name gives (`ensures` in the
 -- crates `tasks`, `irqwait`, `parktime`, `wake` and `runqueue`). So what is proved of runs is proved of these calls. A read leaves
 -- the table, as its contract does.
-use Rattle.std.specs.Prelude.{◌≡◌, Bool, List, ℕ}
-use Rattle.std.proofs.Math.Option.{Option}
+use Rattle.std.specs.Prelude.{◌≡◌, Bool, List, ℕ, Option}
 use Rattle.ids.specs.declared.TaskId.{TaskId}
 use Rattle.answers.specs.Reply.{Reply}
 use Rattle.answers.specs.Contract.{Step, put}

@@ -1,127 +1,118 @@
-// Answers in writing: a word or a number after a space, an answer by its number or its value. A write that fails is let go, since
-// the whole output is held to the stored one.
+// What the calls answer, in writing: each answer after a space, a refusal by its number.
 #![tactic(auto)]
 
-use answers::{Ack, Count, Homed, Named, Refusal, State, Stated, Told};
-use ids::TaskId;
-use switch::{Decision, Release};
-use wake::Popped;
+use answers::{Answered, Refusal, State};
+use ids::{TaskId, Token};
+use std::io;
+use switch::Decision;
 
-pub fn text(rt: &impl Print, s: &[u8]) {
-    let _written = rt.write_all(s);
+// What a call may answer, and the fields of a table.
+pub trait Say {
+    fn say(self, rt: &impl Print) -> io::Result<()>;
 }
 
-pub fn end(rt: &impl Print) {
-    text(rt, b"\n");
+impl Say for bool {
+    fn say(self, rt: &impl Print) -> io::Result<()> {
+        print!(rt; " {self}")
+    }
 }
 
-pub fn number(rt: &impl Print, n: u64) {
-    text(rt, b" ");
-    let _written = rt.print(n);
+impl Say for u8 {
+    fn say(self, rt: &impl Print) -> io::Result<()> {
+        print!(rt; " {self}")
+    }
+}
+
+impl Say for u16 {
+    fn say(self, rt: &impl Print) -> io::Result<()> {
+        print!(rt; " {self}")
+    }
+}
+
+impl Say for u32 {
+    fn say(self, rt: &impl Print) -> io::Result<()> {
+        print!(rt; " {self}")
+    }
+}
+
+impl Say for u64 {
+    fn say(self, rt: &impl Print) -> io::Result<()> {
+        print!(rt; " {self}")
+    }
+}
+
+impl Say for usize {
+    fn say(self, rt: &impl Print) -> io::Result<()> {
+        print!(rt; " {self}")
+    }
+}
+
+impl Say for () {
+    fn say(self, rt: &impl Print) -> io::Result<()> {
+        print!(rt; " ok")
+    }
+}
+
+impl Say for TaskId {
+    fn say(self, rt: &impl Print) -> io::Result<()> {
+        print!(rt; " {}/{}", self.slot, self.epoch)
+    }
 }
 
 // A word of an output, as it stands.
-pub fn raw(rt: &impl Print, n: u32) {
-    number(rt, n as u64);
-}
-
-fn refusal(rt: &impl Print, why: Refusal) {
-    text(rt, b" !");
-    let n = why.number();
-    let _written = rt.print(n as u64);
-}
-
-pub fn truth(rt: &impl Print, b: bool) {
-    if b {
-        text(rt, b" true");
-    } else {
-        text(rt, b" false");
+impl Say for Token {
+    fn say(self, rt: &impl Print) -> io::Result<()> {
+        self.0.say(rt)
     }
 }
 
-pub fn id(rt: &impl Print, t: TaskId) {
-    number(rt, t.slot as u64);
-    text(rt, b"/");
-    let _written = rt.print(t.epoch as u64);
-}
-
-pub fn ack(rt: &impl Print, a: Ack) {
-    match a {
-        Ack::Done => text(rt, b" ok"),
-        Ack::Refused(why) => refusal(rt, why),
+impl Say for State {
+    fn say(self, rt: &impl Print) -> io::Result<()> {
+        print!(rt; " {self:?}")
     }
 }
 
-pub fn told(rt: &impl Print, a: Told) {
-    match a {
-        Told::Is(b) => truth(rt, b),
-        Told::Refused(why) => refusal(rt, why),
-    }
-}
-
-pub fn count(rt: &impl Print, a: Count) {
-    match a {
-        Count::Is(n) => number(rt, n),
-        Count::Refused(why) => refusal(rt, why),
-    }
-}
-
-pub fn named(rt: &impl Print, a: Named) {
-    match a {
-        Named::Id(t) => id(rt, t),
-        Named::Nothing => text(rt, b" -"),
-        Named::Refused(why) => refusal(rt, why),
-    }
-}
-
-pub fn popped(rt: &impl Print, a: Popped) {
-    match a {
-        Popped::Token(t) => number(rt, t.0 as u64),
-        Popped::Nothing => text(rt, b" -"),
-        Popped::Refused(why) => refusal(rt, why),
-    }
-}
-
-pub fn state(rt: &impl Print, s: State) {
-    match s {
-        State::Empty => text(rt, b" Empty"),
-        State::Ready => text(rt, b" Ready"),
-        State::Running => text(rt, b" Running"),
-        State::Blocked => text(rt, b" Blocked"),
-    }
-}
-
-pub fn stated(rt: &impl Print, a: Stated) {
-    match a {
-        Stated::Is(s) => state(rt, s),
-        Stated::Nothing => text(rt, b" -"),
-        Stated::Refused(why) => refusal(rt, why),
-    }
-}
-
-pub fn homed(rt: &impl Print, a: Homed) {
-    match a {
-        Homed::Cpu(c) => number(rt, c as u64),
-        Homed::Nothing => text(rt, b" -"),
-        Homed::Refused(why) => refusal(rt, why),
-    }
-}
-
-fn release(rt: &impl Print, r: Release) {
-    match r {
-        Release::Id(t) => id(rt, t),
-        Release::Nothing => text(rt, b" -"),
-    }
-}
-
-pub fn decision(rt: &impl Print, d: Decision) {
-    match d {
-        Decision::Stay => text(rt, b" stay"),
-        Decision::Switch(from, to, rest) => {
-            id(rt, from);
-            id(rt, to);
-            release(rt, rest);
+impl Say for Decision {
+    fn say(self, rt: &impl Print) -> io::Result<()> {
+        match self {
+            Decision::Stay => print!(rt; " stay"),
+            Decision::Switch { from, to, release } => {
+                from.say(rt)?;
+                to.say(rt)?;
+                release.say(rt)
+            }
         }
-        Decision::Refused(why) => refusal(rt, why),
     }
+}
+
+impl<A: Say> Say for Option<A> {
+    fn say(self, rt: &impl Print) -> io::Result<()> {
+        match self {
+            Some(a) => a.say(rt),
+            None => print!(rt; " -"),
+        }
+    }
+}
+
+impl<A: Say> Say for Result<A, Refusal> {
+    fn say(self, rt: &impl Print) -> io::Result<()> {
+        match self {
+            Ok(a) => a.say(rt),
+            Err(why) => print!(rt; " !{}", why.number()),
+        }
+    }
+}
+
+// Says what a call answered, and hands its table on.
+pub fn answered<T: Drop, A: Say>(rt: &impl Print, done: Answered<T, A>) -> io::Result<T> {
+    done.answer.say(rt)?;
+    Ok(done.table)
+}
+
+pub fn text(rt: &impl Print, s: &[u8]) -> io::Result<()> {
+    rt.write_all(s)
+}
+
+pub fn end(rt: &impl Print) -> io::Result<()> {
+    println!(rt)
 }

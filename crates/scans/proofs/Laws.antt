@@ -4,7 +4,7 @@ use mathlib.Core.Bool.{Bool, true, false, ◌&&◌, not}
 use mathlib.Core.List.{List}
 use mathlib.Core.Logic.{⊎_elim}
 use Prim.Native.Nat.{ℕ, zero, suc, ◌+◌, ◌-◌, ◌≤◌, ◌<◌}
-use native.Mathlib.Nat.{add-zero, add-suc}
+use native.Mathlib.Nat.{add-zero, zero-add, add-suc}
 use native.Mathlib.Numerals.{add-one}
 use native.Mathlib.Omega.{arith}
 use borrow.Author.Tests.{lt-ltb, le-ltb, eq-eqb, ne_eqb, ltb-true}
@@ -13,6 +13,7 @@ use lib.ListN.{length, get_or, take}
 use lib.Seq.{get_or-take, length-take-le}
 use Rattle.lists.specs.Tab.{tab}
 use Rattle.lists.specs.Search.{count_of}
+use Rattle.std.specs.Prelude.{◌∷◌, [], count_by, cond, fold}
 use Rattle.lists.proofs.TabLaws.{length-tab, get_or-tab}
 use Rattle.lists.proofs.SearchLaws.{Passed, passed_none, passed_more, passed_hit, passed_all, Counting, counting_none, counting_hit, counting_pass, counting_all, any_hit, any_none}
 use Rattle.lists.specs.Flags.{is_set}
@@ -207,3 +208,17 @@ module _ (p : ℕ → Bool) (states : List ℕ) (n : ℕ) where
     pub counted-all : (s k : ℕ) → Counted s k → n ≤ s → k ≡ count_of p (take n states)
     unfolding Counted
     counted-all s k c h = counting_all p (take n states) s k c (omega (arith, cut))
+
+-- THE SAME COUNTS, AS ITERATORS MAKE THEM
+
+counted_on : {A : Type 0} (p : A → Bool) (a : ℕ) (xs : List A) → fold (λ n x. n + cond (p x) 1 0) a xs ≡ a + count_of p xs
+unfolding count_of
+counted_on p a [] = omega arith
+counted_on p a (x ∷ xs) = counted_on p (a + cond (p x) 1 0) xs ∙ go (p x)
+  where
+    go : (b : Bool) → a + cond b 1 0 + count_of p xs ≡ a + cond b (suc (count_of p xs)) (count_of p xs)
+    go true = omega arith
+    go false = omega arith
+
+pub counted_by : {A : Type 0} (p : A → Bool) (xs : List A) → count_by p xs ≡ count_of p xs
+counted_by p xs = counted_on p 0 xs ∙ zero-add (count_of p xs)

@@ -1,43 +1,37 @@
 // Readings of a table's arrays, lent: numbers in, numbers out, so that no call copies a table to look at it.
 #![tactic(auto)]
 
-ghost use Rattle.std.specs.Prelude.{◌≡◌, ℕ, ◌≤◌, max, length};
+ghost use Rattle.std.specs.Prelude.{◌≡◌, ℕ, ◌≤◌, ◌<◌, max, unwrap_or, IfSome};
 ghost use Rattle.memory.specs.Parts.{known_in, idle_in, stealeable_in, free_in, occupied_in, blocked_in};
 ghost use Rattle.scans.specs.Slots.{LowestEmpty};
 
 use ids::TaskId;
 
 // Whether an id names the tenant that its slot has now.
-pub fn known<'a>(epochs: &'a [u16; 64], n: usize, id: TaskId) -> bool
+pub fn known(epochs: &[u16; 64], n: usize, id: TaskId) -> bool
     requires { n ≤ 64 }
     ensures { result ≡ known_in epochs.now n id }
 {
     let s = id.slot as usize;
-    if n <= s {
-        return false;
-    }
-    epochs[s] == id.epoch
+    s < n && epochs[s] == id.epoch
 }
 
 // Whether an id is that of a CPU's idle task.
 pub fn is_idle(idles: [TaskId; 2], id: TaskId) -> bool
     ensures { result ≡ idle_in idles id }
 {
-    let mut c = 0;
-    while c < memory::CPUS {
-        let i = idles[c];
-        if id.same(i) {
+    for i in &idles {
+        if id == *i {
             return true;
         }
-        c = c + 1;
     }
     false
 }
 
 // Whether another CPU may have the task: known, marked, and no idle.
-pub fn stealeable<'a>(
-    epochs: &'a [u16; 64],
-    marks: &'a [u8; 64],
+pub fn stealeable(
+    epochs: &[u16; 64],
+    marks: &[u8; 64],
     n: usize,
     idles: [TaskId; 2],
     id: TaskId,
@@ -45,87 +39,68 @@ pub fn stealeable<'a>(
     requires { n ≤ 64 }
     ensures { result ≡ stealeable_in epochs.now marks.now n idles id }
 {
-    if !known(epochs, n, id) {
-        return false;
-    }
-    let s = id.slot as usize;
-    if marks[s] == 0 {
-        return false;
-    }
-    !is_idle(idles, id)
+    known(epochs, n, id) && marks[id.slot as usize] != 0 && !is_idle(idles, id)
 }
 
-// The lowest Empty slot that is not below one, or n.
-fn empty_from<'a>(states: &'a [u8; 64], n: usize, from: usize) -> usize
+// The lowest Empty slot that is not below one.
+fn empty_from(states: &[u8; 64], n: usize, from: usize) -> Option<usize>
     requires n_bound { n ≤ 64 }
     requires from_le_n { from ≤ n }
-    ensures { LowestEmpty states.now from n result }
+    ensures lowest { LowestEmpty states.now from n (unwrap_or result n) }
+    ensures below { IfSome result (λ s. s < n) }
 {
-    let mut s = from;
-    while s < n {
+    for s in from..n {
         if states[s] == memory::EMPTY {
-            return s;
+            return Some(s);
         }
-        s = s + 1;
     }
-    s
+    None
 }
 
-// The lowest slot that is Empty and not the parked one, or n. The loop does not ask about the parked one: only if that is
+// The lowest slot that is Empty and not the parked one. The loop does not ask about the parked one: only if that is
 // the lowest does it go on behind it.
-pub fn free_slot<'a>(states: &'a [u8; 64], n: usize, parked: u8, at: usize) -> usize
+pub fn free_slot(states: &[u8; 64], n: usize, parked: u8, at: usize) -> Option<usize>
     requires { n ≤ 64 }
-    ensures { (result ≡ free_in states.now parked at n) × (result ≤ n) }
+    ensures lowest { unwrap_or result n ≡ free_in states.now parked at n }
+    ensures below { IfSome result (λ s. s < n) }
 {
-    let s = empty_from(states, n, 0);
-    if n <= s {
-        return s;
-    }
-    if parked == 0 {
-        return s;
-    }
-    if at != s {
-        return s;
+    let s = empty_from(states, n, 0)?;
+    if parked == 0 || at != s {
+        return Some(s);
     }
     empty_from(states, n, s + 1)
 }
 
-// How many of the first n slots are not Empty.
-pub fn occupied<'a>(states: &'a [u8; 64], n: usize) -> u32
+// How many of the first n slots are not Empty. The compiler counts several slots at once in this loop, but only one in an iterator's
+// `filter` and `count`.
+pub fn occupied(states: &[u8; 64], n: usize) -> u32
     requires n_bound { n ≤ 64 }
-    requires n_in_bounds { n ≤ length states.now }
     ensures { result ≡ occupied_in states.now n }
 {
-    let mut k = 0u32;
-    let mut s = 0;
-    while s < n {
-        if states[s] != memory::EMPTY {
-            k = k + 1;
+    let mut count = 0;
+    for s in &states[..n] {
+        if *s != memory::EMPTY {
+            count += 1;
         }
-        s = s + 1;
     }
-    k
+    count
 }
 
 // How many of the first n slots are Blocked.
-pub fn blocked<'a>(states: &'a [u8; 64], n: usize) -> u32
+pub fn blocked(states: &[u8; 64], n: usize) -> u32
     requires n_bound { n ≤ 64 }
-    requires n_in_bounds { n ≤ length states.now }
     ensures { result ≡ blocked_in states.now n }
 {
-    let mut k = 0u32;
-    let mut s = 0;
-    while s < n {
-        if states[s] == memory::BLOCKED {
-            k = k + 1;
-        }
-        s = s + 1;
-    }
-    k
+    states[..n]
+        .iter()
+        .filter(|s| **s == memory::BLOCKED)
+        .count() as u32
 }
 
-pub fn larger(a: u32, b: u32) -> u32
-    ensures { result ≡ max a b }
+// The peak, once slots are occupied as they are now.
+pub fn peak_with(states: &[u8; 64], n: usize, peak: u32) -> u32
+    requires n_bound { n ≤ 64 }
+    ensures { result ≡ max peak (occupied_in states.now n) }
 {
-    if a < b { b } else { a }
+    peak.max(occupied(states, n))
 }

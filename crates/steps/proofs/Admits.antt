@@ -1,7 +1,7 @@
 -- The returns of `admit_on_in`.
+use Rattle.std.specs.Prelude.{Some, None}
 use mathlib.Core.Path.{◌≡◌, refl, sym, ◌∙◌, ap, ap₂}
 use mathlib.Core.Bool.{false, ◌&&◌}
-use mathlib.Core.Option.{some, none}
 use Prim.Native.Nat.{ℕ, ◌+◌, ◌*◌, ◌≤◌, ◌<◌, max}
 use native.Mathlib.Omega.{arith}
 use borrow.Author.Tests.{lt-ltb, le-ltb}
@@ -48,19 +48,19 @@ module _ (t : Tasks) (c : ℕ) (w : Sound t) (on : get_or t.states 0 0 ≡ 0 →
   abbrev spare : ℕ
   spare = free_in t.states t.small.parked t.small.parked_id.slot t.small.n
 
-  none_left : (ltb c (length (view t).cpus) && ltb (free_slot (view t)) (view t).n) ≡ false → Does table t t (named none) (admit_step (view t) c)
+  none_left : (ltb c (length (view t).cpus) && ltb (free_slot (view t)) (view t).n) ≡ false → Does table t t (named None) (admit_step (view t) c)
   unfolding admit_step
-  none_left h = rw (when_on t w _ on, h) (keeps t w (named none) _ (λ e. let z : ◌≡◌ {A = ℕ} 0 1 = cc in omega arith) refl refl)
+  none_left h = rw (when_on t w _ on, h) (keeps t w (named None) _ (λ e. let z : ◌≡◌ {A = ℕ} 0 1 = cc in omega arith) refl refl)
 
-  pub admit_above : CPUS ≤ c → Does table t t (named none) (admit_step (view t) c)
+  pub admit_above : CPUS ≤ c → Does table t t (named None) (admit_step (view t) c)
   admit_above h = none_left (rw (le-ltb c (length (view t).cpus) (omega (arith, view_ncpus t))))
 
-  pub admit-none : (s : ℕ) → c < CPUS → s ≡ spare → t.small.n ≤ s → Does table t t (named none) (admit_step (view t) c)
+  pub admit-none : (s : ℕ) → c < CPUS → s ≡ spare → t.small.n ≤ s → Does table t t (named None) (admit_step (view t) c)
   admit-none s hc e h =
       none_left (rw (lt-ltb c (length (view t).cpus) (omega (arith, view_ncpus t)), le-ltb (free_slot (view t)) (view t).n (omega (arith, view-free t, view_n t))))
 
   module _ (hc : c < CPUS) (s : ℕ) (e : s ≡ spare) (near : s < t.small.n) where
-    admits : admit_step (view t) c ≡ record { reply = named (some (tenant (view t) s)); after = admitted (view t) c s }
+    admits : admit_step (view t) c ≡ record { reply = named (Some (tenant (view t) s)); after = admitted (view t) c s }
     unfolding admit_step
     admits =
         rw (when_on t w _ on, lt-ltb c (length (view t).cpus) (omega (arith, view_ncpus t)), lt-ltb (free_slot (view t)) (view t).n (omega (arith, view-free t, view_n t)), view-free t, ← e)
@@ -68,7 +68,7 @@ module _ (t : Tasks) (c : ℕ) (w : Sound t) (on : get_or t.states 0 0 ≡ 0 →
     pub admit-done : (v h i l k b : ℕ) (id : TaskId) → v ≡ READY → h ≡ c → b ≡ 0 → id ≡ record { slot = s; epoch = get_or t.epochs s 0 }
         → i ≡ c * SPAN + placed t.small.n (head_of t c + len_of t c) → l ≡ len_of t c + 1 → k ≡ max t.small.peak (occupied_in (set t.states s v) t.small.n)
         → let u = put_tail (put_mark (put_home (put_state t s v) s h) s b) c i l id in
-        Does table t (put_rest u t.small.parked t.small.parked_id t.small.overwrites t.small.block_events k) (named (some id)) (admit_step (view t) c)
+        Does table t (put_rest u t.small.parked t.small.parked_id t.small.overwrites t.small.block_events k) (named (Some id)) (admit_step (view t) c)
     unfolding admitted filled
     admit-done v h i l k b id ev eh eb ei p q ek =
         let f = filled t s v h b in
@@ -83,6 +83,6 @@ module _ (t : Tasks) (c : ℕ) (w : Sound t) (on : get_or t.states 0 0 ≡ 0 →
         (store_tail f c i l id r hc free p q
         ∙ ap₂ (λ m x. pushed m c x) fv name)
         in
-        ends t w (put_rest u u.small.parked u.small.parked_id u.small.overwrites u.small.block_events k) (named (some id)) (admit_step (view t) c)
+        ends t w (put_rest u u.small.parked u.small.parked_id u.small.overwrites u.small.block_events k) (named (Some id)) (admit_step (view t) c)
         (rep-rest u u.small.parked u.small.parked_id u.small.overwrites u.small.block_events k w.rep.flag (rep-tail f c i l id r hc free p q)) (λ z. z)
-        (ap (λ x. named (some x)) name ∙ ap (λ (x : Step Model). x.reply) (sym admits)) (after ∙ ap (λ (x : Step Model). x.after) (sym admits)) (admit-sound (view t) c w.model)
+        (ap (λ x. named (Some x)) name ∙ ap (λ (x : Step Model). x.reply) (sym admits)) (after ∙ ap (λ (x : Step Model). x.after) (sym admits)) (admit-sound (view t) c w.model)

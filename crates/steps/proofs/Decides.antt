@@ -1,7 +1,7 @@
 -- The returns of a switch that takes a turn.
+use Rattle.std.specs.Prelude.{Some, None}
 use mathlib.Core.Path.{◌≡◌, refl, sym, ◌∙◌, ap, ap₂, subst}
 use mathlib.Core.Bool.{true, false, ◌&&◌, not, cond}
-use mathlib.Core.Option.{some, none}
 use Prim.Native.Nat.{ℕ, ◌+◌, ◌-◌, ◌*◌, ◌<◌}
 use native.Mathlib.Omega.{arith}
 use lib.ListN.{get_or}
@@ -23,10 +23,10 @@ use Rattle.memory.specs.View.{SPAN, head_of, len_of, view, Rep, Sound, table}
 use Rattle.memory.proofs.Puts.{put_state, put_head, put_current, put_rest}
 use Rattle.memory.proofs.ViewLaws.{view_n, view-current, view-parked, view-overwrites, view-events, view-peak, store_rest, rep-rest}
 use Rattle.memory.proofs.RingStores.{ring_in, rest_in}
-use Rattle.steps.specs.Switching.{Ready, Left}
+use Rattle.steps.specs.Switching.{Going, Ready, Left}
 use Rattle.steps.proofs.Common.{is-on, lives, ends}
 use Rattle.steps.proofs.Switches.{switches, switched-turn}
-use Rattle.steps.proofs.Turns.{Going, enter_rep, enter_view, turn-same, turn-other}
+use Rattle.steps.proofs.Turns.{enter_rep, enter_view, turn-same, turn-other}
 
 -- a pull keeps the size
 pulls-n : (m : Model) (c : ℕ) → (pulls m c).n ≡ m.n
@@ -34,7 +34,7 @@ unfolding pulls stealing stolen
 pulls-n m c = by_test (λ (w : Model). w.n ≡ m.n) (idles m c && is_nil (queue_of m c)) _ _ (λ _. by_test (λ (w : Model). w.n ≡ m.n) (can_steal m c) _ _ (λ _. refl) (λ _. refl)) (λ _. refl)
 
 -- only an exit parks
-released-none : (m : Model) (k : Kind) → (k ≡ exit → ⊥) → released m k ≡ none
+released-none : (m : Model) (k : Kind) → (k ≡ exit → ⊥) → released m k ≡ None
 released-none m yield h = refl
 released-none m preempt h = refl
 released-none m block h = refl
@@ -49,25 +49,25 @@ parks-none m exit id h = absurd (h refl)
 
 -- the parking, in memory
 module _ (e : Tasks) (m : Model) (is : view e ≡ m) (b : ℕ) (f : TaskId) (yes-b : b ≡ 1) where
-  parked_is : m.parked ≡ cond (is_set e.small.parked) (some e.small.parked_id) none
+  parked_is : m.parked ≡ cond (is_set e.small.parked) (Some e.small.parked_id) None
   parked_is = ap (λ (k : Model). k.parked) (sym is) ∙ view-parked e
 
   park_view : (o : ℕ) → o ≡ displaced m.parked m.overwrites → view (put_rest e b f o e.small.block_events e.small.peak) ≡ parks m exit f
   unfolding parks
   park_view o h =
       store_rest e b f o e.small.block_events e.small.peak
-      ∙ ap₂ (λ (k : Model) (c : ℕ). rest_to k (cond (is_set c) (some f) none) o e.small.block_events e.small.peak) is yes-b
-      ∙ ap₂ (λ (x y : ℕ). rest_to m (some f) o x y) (sym (view-events e) ∙ ap (λ (k : Model). k.block_events) is) (sym (view-peak e) ∙ ap (λ (k : Model). k.peak) is)
-      ∙ ap (λ (x : ℕ). rest_to m (some f) x m.block_events m.peak) h
+      ∙ ap₂ (λ (k : Model) (c : ℕ). rest_to k (cond (is_set c) (Some f) None) o e.small.block_events e.small.peak) is yes-b
+      ∙ ap₂ (λ (x y : ℕ). rest_to m (Some f) o x y) (sym (view-events e) ∙ ap (λ (k : Model). k.block_events) is) (sym (view-peak e) ∙ ap (λ (k : Model). k.peak) is)
+      ∙ ap (λ (x : ℕ). rest_to m (Some f) x m.block_events m.peak) h
 
   pub park_over : (e.small.parked ≡ 0 → ⊥) → (o : ℕ) → o ≡ capped e.small.overwrites → view (put_rest e b f o e.small.block_events e.small.peak) ≡ parks m exit f
   park_over was o h =
-      let p : m.parked ≡ some e.small.parked_id = parked_is ∙ rw (set_on e.small.parked was) in
+      let p : m.parked ≡ Some e.small.parked_id = parked_is ∙ rw (set_on e.small.parked was) in
       park_view o (h ∙ ap capped (sym (view-overwrites e) ∙ ap (λ (k : Model). k.overwrites) is) ∙ ap (λ p. displaced p m.overwrites) (sym p))
 
   pub park_first : e.small.parked ≡ 0 → view (put_rest e b f e.small.overwrites e.small.block_events e.small.peak) ≡ parks m exit f
   park_first was =
-      let p : m.parked ≡ none = parked_is ∙ rw (set-off e.small.parked was) in
+      let p : m.parked ≡ None = parked_is ∙ rw (set-off e.small.parked was) in
       park_view e.small.overwrites (sym (view-overwrites e) ∙ ap (λ (k : Model). k.overwrites) is ∙ ap (λ p. displaced p m.overwrites) (sym p))
 
 module _ (t : Tasks) (c : ℕ) (k : Kind) (w : Sound t) (on : get_or t.states 0 0 ≡ 0 → ⊥) (hc : c < CPUS) (up : started_on (view t) c ≡ true) (u : Tasks) (r : Ready t c k u) where
@@ -115,26 +115,26 @@ module _ (t : Tasks) (c : ℕ) (k : Kind) (w : Sound t) (on : get_or t.states 0 
       q : turn (view u) c k ≡ record { reply = switched f x (released (leaves (view u) c k) k); after = parks (enters (leaves (view u) c k) c x (rest_in v c)) k f }
       q = turn-other u c k hc going v l x at s h n ea ex es eh en other ∙ ap (λ y. record { reply = switched y x (released (leaves (view u) c k) k); after = parks (enters (leaves (view u) c k) c x (rest_in v c)) k y }) (sym ef)
 
-      pub decide_switch : (k ≡ exit → ⊥) → Does table t (put_current (put_head (put_state v x.slot s) c h n) c x) (switched f x none) (switch_step (view t) c k)
+      pub decide_switch : (k ≡ exit → ⊥) → Does table t (put_current (put_head (put_state v x.slot s) c h n) c x) (switched f x None) (switch_step (view t) c k)
       decide_switch no_exit =
-          decides e (switched f x none) er (λ z. z)
+          decides e (switched f x None) er (λ z. z)
           (ap (switched f x) (sym (released-none (leaves (view u) c k) k no_exit)) ∙ ap (λ (y : Step Model). y.reply) (sym q))
           (ev ∙ sym (parks-none (enters (leaves (view u) c k) c x (rest_in v c)) k f no_exit) ∙ ap (λ (y : Step Model). y.after) (sym q))
 
       module _ (ex2 : k ≡ exit) (b : ℕ) (yes-b : b ≡ 1) where
-        release_is : released (leaves (view u) c k) k ≡ cond (is_set v.small.parked) (some v.small.parked_id) none
+        release_is : released (leaves (view u) c k) k ≡ cond (is_set v.small.parked) (Some v.small.parked_id) None
         release_is = ap (λ (j : Kind). released (leaves (view u) c k) j) ex2 ∙ ap (λ (m : Model). m.parked) (sym l.after) ∙ view-parked v
 
-        pub decide_over : (v.small.parked ≡ 0 → ⊥) → (o : ℕ) → o ≡ capped v.small.overwrites → Does table t (put_rest (put_current (put_head (put_state v x.slot s) c h n) c x) b f o v.small.block_events v.small.peak) (switched f x (some v.small.parked_id)) (switch_step (view t) c k)
+        pub decide_over : (v.small.parked ≡ 0 → ⊥) → (o : ℕ) → o ≡ capped v.small.overwrites → Does table t (put_rest (put_current (put_head (put_state v x.slot s) c h n) c x) b f o v.small.block_events v.small.peak) (switched f x (Some v.small.parked_id)) (switch_step (view t) c k)
         decide_over was o ho =
-            let over : released (leaves (view u) c k) k ≡ some v.small.parked_id = release_is ∙ rw (set_on v.small.parked was) in
-            decides (put_rest e b f o v.small.block_events v.small.peak) (switched f x (some v.small.parked_id)) (rep-rest e b f o v.small.block_events v.small.peak (omega arith) er) (λ z. z)
+            let over : released (leaves (view u) c k) k ≡ Some v.small.parked_id = release_is ∙ rw (set_on v.small.parked was) in
+            decides (put_rest e b f o v.small.block_events v.small.peak) (switched f x (Some v.small.parked_id)) (rep-rest e b f o v.small.block_events v.small.peak (omega arith) er) (λ z. z)
             (ap (switched f x) (sym over) ∙ ap (λ (y : Step Model). y.reply) (sym q))
             (park_over e (enters (leaves (view u) c k) c x (rest_in v c)) ev b f yes-b was o ho ∙ ap (λ (j : Kind). parks (enters (leaves (view u) c k) c x (rest_in v c)) j f) (sym ex2) ∙ ap (λ (y : Step Model). y.after) (sym q))
 
-        pub decide_first : v.small.parked ≡ 0 → Does table t (put_rest (put_current (put_head (put_state v x.slot s) c h n) c x) b f v.small.overwrites v.small.block_events v.small.peak) (switched f x none) (switch_step (view t) c k)
+        pub decide_first : v.small.parked ≡ 0 → Does table t (put_rest (put_current (put_head (put_state v x.slot s) c h n) c x) b f v.small.overwrites v.small.block_events v.small.peak) (switched f x None) (switch_step (view t) c k)
         decide_first was =
-            let first : released (leaves (view u) c k) k ≡ none = release_is ∙ rw (set-off v.small.parked was) in
-            decides (put_rest e b f v.small.overwrites v.small.block_events v.small.peak) (switched f x none) (rep-rest e b f v.small.overwrites v.small.block_events v.small.peak (omega arith) er) (λ z. z)
+            let first : released (leaves (view u) c k) k ≡ None = release_is ∙ rw (set-off v.small.parked was) in
+            decides (put_rest e b f v.small.overwrites v.small.block_events v.small.peak) (switched f x None) (rep-rest e b f v.small.overwrites v.small.block_events v.small.peak (omega arith) er) (λ z. z)
             (ap (switched f x) (sym first) ∙ ap (λ (y : Step Model). y.reply) (sym q))
             (park_first e (enters (leaves (view u) c k) c x (rest_in v c)) ev b f yes-b was ∙ ap (λ (j : Kind). parks (enters (leaves (view u) c k) c x (rest_in v c)) j f) (sym ex2) ∙ ap (λ (y : Step Model). y.after) (sym q))

@@ -1,7 +1,7 @@
 -- The returns of `set_stealeable_in` and `collect_in`.
+use Rattle.std.specs.Prelude.{Option, Some, None}
 use mathlib.Core.Path.{◌≡◌, refl, sym, ◌∙◌, ap}
 use mathlib.Core.Bool.{Bool, true, false, cond}
-use mathlib.Core.Option.{Option, some, none}
 use Prim.Native.Nat.{ℕ, ◌<◌}
 use native.Mathlib.Omega.{arith}
 use lib.ListN.{get_or}
@@ -48,22 +48,22 @@ module _ (t : Tasks) (id : TaskId) (b : Bool) (w : Sound t) (on : get_or t.state
         (store_mark t id.slot mark_near v ∙ ap (with_mark (view t) id.slot) (ap is_set e ∙ set_one_if b) ∙ ap (λ (x : Step Model). x.after) (sym (marks h))) (mark-sound (view t) id b w.model)
 
 module _ (t : Tasks) (w : Sound t) (on : get_or t.states 0 0 ≡ 0 → ⊥) where
-  collects : (p : Option TaskId) → (view t).parked ≡ p → collect_step (view t) ≡ record { reply = named p; after = with_parked (view t) none }
+  collects : (p : Option TaskId) → (view t).parked ≡ p → collect_step (view t) ≡ record { reply = named p; after = with_parked (view t) None }
   unfolding collect_step
-  collects p e = when_on t w _ on ∙ ap (λ x. record { reply = named x; after = with_parked (view t) none }) e
+  collects p e = when_on t w _ on ∙ ap (λ x. record { reply = named x; after = with_parked (view t) None }) e
 
-  pub collect-none : t.small.parked ≡ 0 → Does table t t (named none) (collect_step (view t))
+  pub collect-none : t.small.parked ≡ 0 → Does table t t (named None) (collect_step (view t))
   collect-none h =
-      let e : (view t).parked ≡ none = view-parked t ∙ rw (set-off t.small.parked h) in
-      let c = collects none e in
-      keeps t w (named none) (collect_step (view t)) (λ e. let z : ◌≡◌ {A = ℕ} 0 1 = cc in omega arith) (ap (λ (x : Step Model). x.reply) (sym c))
+      let e : (view t).parked ≡ None = view-parked t ∙ rw (set-off t.small.parked h) in
+      let c = collects None e in
+      keeps t w (named None) (collect_step (view t)) (λ e. let z : ◌≡◌ {A = ℕ} 0 1 = cc in omega arith) (ap (λ (x : Step Model). x.reply) (sym c))
       (ap (λ p. with_parked (view t) p) e ∙ ap (λ (x : Step Model). x.after) (sym c))
 
-  pub collect-done : (b : ℕ) → (t.small.parked ≡ 0 → ⊥) → b ≡ 0 → Does table t (put_rest t b t.small.parked_id t.small.overwrites t.small.block_events t.small.peak) (named (some t.small.parked_id)) (collect_step (view t))
+  pub collect-done : (b : ℕ) → (t.small.parked ≡ 0 → ⊥) → b ≡ 0 → Does table t (put_rest t b t.small.parked_id t.small.overwrites t.small.block_events t.small.peak) (named (Some t.small.parked_id)) (collect_step (view t))
   unfolding view
   collect-done b h f =
-      let c = collects (some t.small.parked_id) (view-parked t ∙ rw (set_on t.small.parked h)) in
-      ends t w (put_rest t b t.small.parked_id t.small.overwrites t.small.block_events t.small.peak) (named (some t.small.parked_id)) (collect_step (view t))
+      let c = collects (Some t.small.parked_id) (view-parked t ∙ rw (set_on t.small.parked h)) in
+      ends t w (put_rest t b t.small.parked_id t.small.overwrites t.small.block_events t.small.peak) (named (Some t.small.parked_id)) (collect_step (view t))
       (rep-rest t b t.small.parked_id t.small.overwrites t.small.block_events t.small.peak (omega arith) w.rep) (λ z. z)
       (ap (λ (x : Step Model). x.reply) (sym c))
-      (store_rest t b t.small.parked_id t.small.overwrites t.small.block_events t.small.peak ∙ ap (λ x. rest_to (view t) (cond x (some t.small.parked_id) none) t.small.overwrites t.small.block_events t.small.peak) (set-off b f) ∙ ap (λ (x : Step Model). x.after) (sym c)) (collect-sound (view t) w.model)
+      (store_rest t b t.small.parked_id t.small.overwrites t.small.block_events t.small.peak ∙ ap (λ x. rest_to (view t) (cond x (Some t.small.parked_id) None) t.small.overwrites t.small.block_events t.small.peak) (set-off b f) ∙ ap (λ (x : Step Model). x.after) (sym c)) (collect-sound (view t) w.model)

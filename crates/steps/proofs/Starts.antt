@@ -1,7 +1,7 @@
 -- What a claim of a slot comes to, and the returns of `start_in` and `start_cpu_in`.
+use Rattle.std.specs.Prelude.{Some, None}
 use mathlib.Core.Path.{◌≡◌, refl, sym, ◌∙◌, ap, ap₂}
 use mathlib.Core.Bool.{true, false, not}
-use mathlib.Core.Option.{some, none}
 use Prim.Native.Nat.{ℕ, ◌≤◌, ◌<◌, max}
 use native.Mathlib.Omega.{arith}
 use borrow.Author.Tests.{lt-ltb, le-ltb, ne_eqb}
@@ -68,26 +68,26 @@ module _ (t : Tasks) (c : ℕ) (w : Sound t) (pos : 0 < c) (hc : c < CPUS) (on :
   pub on_is : started_on (view t) c ≡ not (same_id (get_or t.small.idles c idle) idle)
   on_is = rw (ne_eqb c 0 (λ e. omega arith)) (ap (λ i. not (same_id i idle)) (view-idle t c hc))
 
-  pub cpu_again : (i : TaskId) → i ≡ get_or t.small.idles c idle → same_id i idle ≡ false → Does table t t (named (some i)) (start_cpu_step (view t) c)
+  pub cpu_again : (i : TaskId) → i ≡ get_or t.small.idles c idle → same_id i idle ≡ false → Does table t t (named (Some i)) (start_cpu_step (view t) c)
   unfolding start_cpu_step
   cpu_again i e h =
       let s : started_on (view t) c ≡ true = on_is ∙ ap not (ap (λ x. same_id x idle) (sym e) ∙ h) in
-      rw (when_on t w _ on, s) (keeps t w (named (some i)) _ (λ e. let z : ◌≡◌ {A = ℕ} 0 1 = cc in omega arith) (ap (λ x. named (some x)) (e ∙ sym (view-idle t c hc))) refl)
+      rw (when_on t w _ on, s) (keeps t w (named (Some i)) _ (λ e. let z : ◌≡◌ {A = ℕ} 0 1 = cc in omega arith) (ap (λ x. named (Some x)) (e ∙ sym (view-idle t c hc))) refl)
 
   module _ (i : TaskId) (e : i ≡ get_or t.small.idles c idle) (h : same_id i idle ≡ true) (s : ℕ) (at : s ≡ spare) where
     off : started_on (view t) c ≡ false
     off = on_is ∙ ap not (ap (λ x. same_id x idle) (sym e) ∙ h)
 
-    pub cpu-none : t.small.n ≤ s → Does table t t (named none) (start_cpu_step (view t) c)
+    pub cpu-none : t.small.n ≤ s → Does table t t (named None) (start_cpu_step (view t) c)
     unfolding start_cpu_step
     cpu-none l =
         rw (when_on t w _ on, off, le-ltb (free_slot (view t)) (view t).n (omega (arith, view-free t, view_n t)))
-        (keeps t w (named none) _ (λ e. let z : ◌≡◌ {A = ℕ} 0 1 = cc in omega arith) refl refl)
+        (keeps t w (named None) _ (λ e. let z : ◌≡◌ {A = ℕ} 0 1 = cc in omega arith) refl refl)
 
-    claims : s < t.small.n → start_cpu_step (view t) c ≡ record { reply = named (some (tenant (view t) s)); after = claimed (view t) c s }
+    claims : s < t.small.n → start_cpu_step (view t) c ≡ record { reply = named (Some (tenant (view t) s)); after = claimed (view t) c s }
     unfolding start_cpu_step
     claims l = rw (when_on t w _ on, off, lt-ltb (free_slot (view t)) (view t).n (omega (arith, view-free t, view_n t)), view-free t, ← at)
 
-    pub cpu-done : (u : Tasks) (id : TaskId) → s < t.small.n → Rep u → view u ≡ claimed (view t) c s → id ≡ tenant (view t) s → Does table t u (named (some id)) (start_cpu_step (view t) c)
+    pub cpu-done : (u : Tasks) (id : TaskId) → s < t.small.n → Rep u → view u ≡ claimed (view t) c s → id ≡ tenant (view t) s → Does table t u (named (Some id)) (start_cpu_step (view t) c)
     cpu-done u id l r v name =
-        ends t w u (named (some id)) (start_cpu_step (view t) c) r (λ z. z) (ap (λ x. named (some x)) name ∙ ap (λ (x : Step Model). x.reply) (sym (claims l))) (v ∙ ap (λ (x : Step Model). x.after) (sym (claims l))) (start_cpu_sound (view t) c hc w.model)
+        ends t w u (named (Some id)) (start_cpu_step (view t) c) r (λ z. z) (ap (λ x. named (Some x)) name ∙ ap (λ (x : Step Model). x.reply) (sym (claims l))) (v ∙ ap (λ (x : Step Model). x.after) (sym (claims l))) (start_cpu_sound (view t) c hc w.model)

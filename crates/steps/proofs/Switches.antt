@@ -100,5 +100,5 @@ module _ (t : Tasks) (c : ℕ) (k : Kind) (w : Sound t) (on : get_or t.states 0 
           go true = refl
           go false = refl
 
-      pub ready-task : same_id (get_or t.small.currents c idle) (get_or t.small.idles c idle) ≡ false → Ready t c k t
-      ready-task h = record { rep = w.rep; after = pulled_none h; goes = rw (rests false h) }
+      pub ready-other : (u : Tasks) → Rep u → view u ≡ pulls (view t) c → same_id (get_or t.small.currents c idle) (get_or t.small.idles c idle) ≡ false → Ready t c k u
+      ready-other u r e h = record { rep = r; after = e; goes = rw (rests false h) }

@@ -1,8 +1,8 @@
 -- The stores of a turn: the current task leaves, the head of the queue runs, a leaver that ended is parked.
+use Rattle.std.specs.Prelude.{Some, None}
 use mathlib.Core.Path.{◌≡◌, refl, sym, ◌∙◌, ap, ap₂, subst}
 use mathlib.Core.Bool.{true, false, cond}
 use mathlib.Core.List.{List, [], ◌∷◌}
-use mathlib.Core.Option.{some, none}
 use Prim.Native.Nat.{ℕ, ◌+◌, ◌-◌, ◌*◌, ◌%◌, ◌^◌, ◌<◌}
 use native.Mathlib.Omega.{arith}
 use lib.ListN.{length, get_or}
@@ -13,18 +13,18 @@ use Rattle.ids.specs.Id.{same_id, idle}
 use Rattle.answers.specs.Reply.{stays, switched}
 use Rattle.runqueue.specs.Ring.{placed}
 use Rattle.runqueue.proofs.Places.{placed-low}
-use Rattle.model.specs.Model.{Model, Cpu, CPUS, EMPTY, READY, RUNNING, BLOCKED, no_cpu, cpu_of, queue_of, current_of, idle_of, epoch_of, started_on, with_state, with_epoch, with_cpu, with_queue, set_queue, pushed, rest_to, capped, bump, cpus_to}
+use Rattle.model.specs.Model.{Model, Cpu, CPUS, EMPTY, READY, RUNNING, BLOCKED, no_cpu, cpu_of, queue_of, current_of, idle_of, epoch_of, with_state, with_epoch, with_cpu, with_queue, set_queue, pushed, rest_to, capped, bump, cpus_to}
 use Rattle.model.specs.Switch.{Kind, block, exit, leaves, enters, released, parks, chooses, turn}
 use Rattle.model.specs.Sound as plain
 use Rattle.model.proofs.Counting.{known-head, room}
 use Rattle.model.proofs.Facts.{on_facts}
-use Rattle.model.proofs.Turns.{May, leaves_core, queue-left}
+use Rattle.model.proofs.Turns.{leaves_core, queue-left}
 use Rattle.memory.specs.declared.Tasks.{Tasks}
 use Rattle.memory.specs.View.{SPAN, head_of, len_of, view, Rep}
 use Rattle.memory.proofs.Puts.{put_state, put_epoch, put_tail, put_head, put_current, put_rest}
 use Rattle.memory.proofs.ViewLaws.{view_n, view_ncpus, view-current, view-epoch, view-len, view-parked, view-overwrites, view-events, view-peak, store_state, store_epoch, store_current, store_rest, rep-state, rep-epoch, rep-current, rep-rest}
 use Rattle.memory.proofs.RingStores.{ring_in, head_in, rest_in, view-split, store_tail, rep-tail, store_head, rep-head}
-use Rattle.steps.specs.Switching.{Left}
+use Rattle.steps.specs.Switching.{Going, Left}
 
 chooses-same : (m : Model) (c : ℕ) (k : Kind) (f x : TaskId) (l : List TaskId) → same_id x f ≡ true → chooses m c k f (x ∷ l) ≡ record { reply = stays; after = enters m c x l }
 unfolding chooses
@@ -33,14 +33,6 @@ chooses-same m c k f x l t = rw t
 chooses-other : (m : Model) (c : ℕ) (k : Kind) (f x : TaskId) (l : List TaskId) → same_id x f ≡ false → chooses m c k f (x ∷ l) ≡ record { reply = switched f x (released m k); after = parks (enters m c x l) k f }
 unfolding chooses
 chooses-other m c k f x l t = rw t
-
--- a CPU that is about to take a turn, in memory
-pub record Going (u : Tasks) (c : ℕ) (k : Kind) : Type 0 where
-  pub rep : Rep u
-  pub shape : plain.Shape (view u)
-  pub live : plain.Live (view u)
-  pub on : started_on (view u) c ≡ true
-  pub may : May (view u) c k
 
 module _ (u : Tasks) (c : ℕ) (k : Kind) (hc : c < CPUS) (g : Going u c k) where
   abbrev from : TaskId
@@ -79,8 +71,8 @@ module _ (u : Tasks) (c : ℕ) (k : Kind) (hc : c < CPUS) (g : Going u c k) wher
       let a = put_state u f.slot v in (
         rep-rest a u.small.parked u.small.parked_id u.small.overwrites b u.small.peak g.rep.flag (rep-state u f.slot g.rep v),
         store_rest a u.small.parked u.small.parked_id u.small.overwrites b u.small.peak
-            ∙ ap₂ (λ (m : Model) (x : ℕ). rest_to m (cond (is_set u.small.parked) (some u.small.parked_id) none) u.small.overwrites x u.small.peak) (store_state u f.slot from-slot v) (h ∙ ap capped (sym (view-events u)))
-            ∙ ap₂ (λ (x : TaskId) (s : ℕ). rest_to (with_state (view u) x.slot s) (cond (is_set u.small.parked) (some u.small.parked_id) none) u.small.overwrites (capped (view u).block_events) u.small.peak) (sym cur) e
+            ∙ ap₂ (λ (m : Model) (x : ℕ). rest_to m (cond (is_set u.small.parked) (Some u.small.parked_id) None) u.small.overwrites x u.small.peak) (store_state u f.slot from-slot v) (h ∙ ap capped (sym (view-events u)))
+            ∙ ap₂ (λ (x : TaskId) (s : ℕ). rest_to (with_state (view u) x.slot s) (cond (is_set u.small.parked) (Some u.small.parked_id) None) u.small.overwrites (capped (view u).block_events) u.small.peak) (sym cur) e
             ∙ ap (λ p. rest_to (with_state (view u) (current_of (view u) c).slot BLOCKED) p u.small.overwrites (capped (view u).block_events) u.small.peak) (sym (view-parked u))
             ∙ ap₂ (λ o y. rest_to (with_state (view u) (current_of (view u) c).slot BLOCKED) (view u).parked o (capped (view u).block_events) y) (sym (view-overwrites u)) (sym (view-peak u)),
       )
@@ -104,11 +96,11 @@ module _ (u : Tasks) (c : ℕ) (k : Kind) (hc : c < CPUS) (g : Going u c k) wher
     some_left : len_of v c ≡ 0 → ⊥
     some_left z =
         queue-left (view u) g.shape g.live c hc g.on k g.may
-        (sym (ap (λ (m : Model). queue_of m c) l.after) ∙ none (queue_of (view v) c) (view-len v c hc ∙ z))
+        (sym (ap (λ (m : Model). queue_of m c) l.after) ∙ None (queue_of (view v) c) (view-len v c hc ∙ z))
       where
-        none : (q : List TaskId) → length q ≡ 0 → q ≡ []
-        none [] h = refl
-        none (x ∷ q) h = absurd (omega arith)
+        None : (q : List TaskId) → length q ≡ 0 → q ≡ []
+        None [] h = refl
+        None (x ∷ q) h = absurd (omega arith)
 
     split : queue_of (leaves (view u) c k) c ≡ head_in v c ∷ rest_in v c
     split = sym (ap (λ (m : Model). queue_of m c) l.after) ∙ view-split v c l.rep hc some_left

@@ -1,19 +1,19 @@
 -- A switch in the code's own terms: which kinds an arm has, and `n` and the leaver as they were read at the start.
-use Rattle.std.proofs.Common.{◌≡◌, ℕ, ◌+◌, ◌-◌, ◌*◌, ◌%◌, ◌^◌, ◌<◌, Bool, true, false, get_or, sym, refl, ap, ◌∙◌, subst, ◌⊎◌, ⊎_elim, arith}
-use mathlib.Core.Option.{some, none}
+use Rattle.std.specs.Prelude.{Some, None}
+use Rattle.std.proofs.Common.{◌≡◌, ℕ, ◌+◌, ◌-◌, ◌*◌, ◌%◌, ◌^◌, ◌<◌, Bool, true, false, get_or, sym, refl, ap, ◌∙◌, ◌⊎◌, ⊎_elim, arith}
 use Rattle.ids.specs.declared.TaskId.{TaskId}
 use Rattle.ids.specs.Id.{same_id, idle}
 use Rattle.answers.specs.Reply.{stays, switched}
 use Rattle.answers.specs.Contract.{Does}
 use Rattle.runqueue.specs.Ring.{placed}
-use Rattle.model.specs.Model.{Model, CPUS, MOST, EMPTY, READY, RUNNING, BLOCKED, current_of, started_on, with_state, pushed, capped}
+use Rattle.model.specs.Model.{Model, CPUS, MOST, EMPTY, READY, RUNNING, BLOCKED, current_of, with_state, pushed, capped}
 use Rattle.model.specs.Switch.{Kind, block, exit, leaves, switch_step}
 use Rattle.memory.specs.declared.Tasks.{Tasks}
-use Rattle.memory.specs.View.{SPAN, head_of, len_of, view, Rep, Sound, table}
+use Rattle.memory.specs.View.{SPAN, head_of, len_of, view, table}
 use Rattle.memory.proofs.Puts.{put_state, put_epoch, put_tail, put_head, put_current, put_rest}
 use Rattle.memory.proofs.RingStores.{ring_in}
-use Rattle.steps.specs.Switching.{Ready, Left}
-use Rattle.steps.proofs.Turns.{Going, from-slot, ring-room, left-tail, left-block, left-exit, head-slot, head-entry, len-left}
+use Rattle.steps.specs.Switching.{Begun, Going, Ready, Left}
+use Rattle.steps.proofs.Turns.{from-slot, ring-room, left-tail, left-block, left-exit, head-slot, head-entry, len-left}
 use Rattle.steps.proofs.Decides.{ready-n, ready-current, going, decide_stay, decide_switch, decide_over, decide_first}
 use Rattle.switch.specs.Decisions.{kind_of}
 use Rattle.switch.specs.declared.Kind as kind
@@ -31,17 +31,6 @@ no_exit kind-of.Preempt h e = let z : ◌≡◌ {A = ℕ} 0 1 = cc in omega arit
 no_exit kind-of.Block h e = let z : ◌≡◌ {A = ℕ} 0 1 = cc in omega arith
 no_exit kind-of.Exit h e = h refl
 
--- what is known of a table is known of one that is the same
-pub carried : {u v : Tasks} {m : Model} → v ≡ u → Rep u → view u ≡ m → Rep v × (view v ≡ m)
-carried e r s = (subst Rep (sym e) r, ap view e ∙ s)
-
--- a call on a CPU that is up
-pub record Begun (t : Tasks) (c : ℕ) : Type 0 where
-  pub sound : Sound t
-  pub on : get_or t.states 0 0 ≡ 0 → ⊥
-  pub low : c < CPUS
-  pub up : started_on (view t) c ≡ true
-
 -- the head's entry x was read, and these are the stores that make it run
 pub record Entered (t v : Tasks) (c : ℕ) (x : TaskId) (s h n : ℕ) : Type 0 where
   pub at : ℕ
@@ -50,6 +39,28 @@ pub record Entered (t v : Tasks) (c : ℕ) (x : TaskId) (s h n : ℕ) : Type 0 w
   pub state : s ≡ RUNNING
   pub head : h ≡ placed t.small.n (head_of v c + 1)
   pub len : n ≡ len_of v c - 1
+
+-- LEAVING
+
+module _ {u : Tasks} {c : ℕ} {k : Kind} (low : c < CPUS) (g : Going u c k) where
+  pub from_low : (get_or u.small.currents c idle).slot < MOST
+  from_low = omega (arith, from-slot u c k low g, g.rep.most)
+
+  pub tail-low : head_of u c + len_of u c < u.small.n + u.small.n
+  tail-low = omega (arith, ring-room u c k low g, (g.rep.rings c low).head)
+
+  pub goes-tail : ((m : Model) → leaves m c k ≡ pushed (with_state m (current_of m c).slot READY) c (current_of m c)) → (i : ℕ)
+      → i ≡ c * SPAN + placed u.small.n (head_of u c + len_of u c)
+      → Left u c k (put_tail (put_state u (get_or u.small.currents c idle).slot READY) c i (len_of u c + 1) (get_or u.small.currents c idle))
+  goes-tail how i ei = let p = left-tail u c k low g READY i (len_of u c + 1) refl ei refl in record { rep = p.0; size = refl; after = p.1 ∙ sym (how (view u)) }
+
+  pub goes-blocked : k ≡ block → (n : ℕ) → n ≡ capped u.small.block_events
+      → Left u c k (put_rest (put_state u (get_or u.small.currents c idle).slot BLOCKED) u.small.parked u.small.parked_id u.small.overwrites n u.small.peak)
+  goes-blocked how n en = let p = left-block u c k low g BLOCKED n refl en in record { rep = p.0; size = refl; after = p.1 ∙ ap (λ (j : Kind). leaves (view u) c j) (sym how) }
+
+  pub goes-out : k ≡ exit → (x : ℕ) → x ≡ (get_or u.epochs (get_or u.small.currents c idle).slot 0 + 1) % 2 ^ 16
+      → Left u c k (put_epoch (put_state u (get_or u.small.currents c idle).slot EMPTY) (get_or u.small.currents c idle).slot x)
+  goes-out how x ex = let p = left-exit u c k low g EMPTY x refl ex in record { rep = p.0; size = refl; after = p.1 ∙ ap (λ (j : Kind). leaves (view u) c j) (sym how) }
 
 module _ {t : Tasks} {c : ℕ} {k : Kind} {u : Tasks} (b : Begun t c) (r : Ready t c k u) where
   g : Going u c k
@@ -60,38 +71,6 @@ module _ {t : Tasks} {c : ℕ} {k : Kind} {u : Tasks} (b : Begun t c) (r : Ready
 
   cur : get_or u.small.currents c idle ≡ get_or t.small.currents c idle
   cur = ready-current t c k b.sound b.on b.low b.up u r
-
-  -- LEAVING
-
-  pub from_low : (get_or t.small.currents c idle).slot < MOST
-  from_low = omega (arith, from-slot u c k b.low g, ap (λ (x : TaskId). x.slot) cur, r.rep.most)
-
-  pub tail-low : head_of u c + len_of u c < t.small.n + t.small.n
-  tail-low = omega (arith, ring-room u c k b.low g, (r.rep.rings c b.low).head, size)
-
-  pub goes-tail : ((m : Model) → leaves m c k ≡ pushed (with_state m (current_of m c).slot READY) c (current_of m c)) → (z : Tasks) (v i l : ℕ)
-      → z ≡ put_tail (put_state u (get_or t.small.currents c idle).slot v) c i l (get_or t.small.currents c idle)
-      → v ≡ READY → i ≡ c * SPAN + placed t.small.n (head_of u c + len_of u c) → l ≡ len_of u c + 1 → Left u c k z
-  goes-tail how z v i l e ev ei el =
-      let p = left-tail u c k b.low g v i l ev (ei ∙ ap (λ (n : ℕ). c * SPAN + placed n (head_of u c + len_of u c)) (sym size)) el in
-      subst (λ (y : Tasks). Left u c k y) (sym e)
-      (subst (λ (f : TaskId). Left u c k (put_tail (put_state u f.slot v) c i l f)) cur (record { rep = p.0; size = refl; after = p.1 ∙ sym (how (view u)) }))
-
-  pub goes-blocked : k ≡ block → (z : Tasks) (v n : ℕ)
-      → z ≡ put_rest (put_state u (get_or t.small.currents c idle).slot v) u.small.parked u.small.parked_id u.small.overwrites n u.small.peak
-      → v ≡ BLOCKED → n ≡ capped u.small.block_events → Left u c k z
-  goes-blocked how z v n e ev en =
-      let p = left-block u c k b.low g v n ev en in
-      subst (λ (y : Tasks). Left u c k y) (sym e)
-      (subst (λ (f : TaskId). Left u c k (put_rest (put_state u f.slot v) u.small.parked u.small.parked_id u.small.overwrites n u.small.peak)) cur (record { rep = p.0; size = refl; after = p.1 ∙ ap (λ (j : Kind). leaves (view u) c j) (sym how) }))
-
-  pub goes-out : k ≡ exit → (z : Tasks) (v x : ℕ)
-      → z ≡ put_epoch (put_state u (get_or t.small.currents c idle).slot v) (get_or t.small.currents c idle).slot x
-      → v ≡ EMPTY → x ≡ (get_or u.epochs (get_or t.small.currents c idle).slot 0 + 1) % 2 ^ 16 → Left u c k z
-  goes-out how z v x e ev ex =
-      let p = left-exit u c k b.low g v x ev (ex ∙ ap (λ (f : TaskId). (get_or u.epochs f.slot 0 + 1) % 2 ^ 16) (sym cur)) in
-      subst (λ (y : Tasks). Left u c k y) (sym e)
-      (subst (λ (f : TaskId). Left u c k (put_epoch (put_state u f.slot v) f.slot x)) cur (record { rep = p.0; size = refl; after = p.1 ∙ ap (λ (j : Kind). leaves (view u) c j) (sym how) }))
 
   -- THE HEAD
 
@@ -125,13 +104,13 @@ module _ {t : Tasks} {c : ℕ} {k : Kind} {u : Tasks} (b : Begun t c) (r : Ready
       stays_on e = decide_stay t c k b.sound b.on b.low b.up u r v l x d.at s h n is_at d.entry d.state next d.len (told true e)
 
       module _ (other : same_id x (get_or t.small.currents c idle) ≡ false) where
-        pub goes_on : (k ≡ exit → ⊥) → Does table t (put_current (put_head (put_state v x.slot s) c h n) c x) (switched (get_or t.small.currents c idle) x none) (switch_step (view t) c k)
+        pub goes_on : (k ≡ exit → ⊥) → Does table t (put_current (put_head (put_state v x.slot s) c h n) c x) (switched (get_or t.small.currents c idle) x None) (switch_step (view t) c k)
         goes_on e = decide_switch t c k b.sound b.on b.low b.up u r v l x d.at s h n is_at d.entry d.state next d.len (get_or t.small.currents c idle) (sym cur) (told false other) e
 
         pub parks_over : k ≡ exit → (a : ℕ) → a ≡ 1 → (v.small.parked ≡ 0 → ⊥) → (o : ℕ) → o ≡ capped v.small.overwrites
-            → Does table t (put_rest (put_current (put_head (put_state v x.slot s) c h n) c x) a (get_or t.small.currents c idle) o v.small.block_events v.small.peak) (switched (get_or t.small.currents c idle) x (some v.small.parked_id)) (switch_step (view t) c k)
+            → Does table t (put_rest (put_current (put_head (put_state v x.slot s) c h n) c x) a (get_or t.small.currents c idle) o v.small.block_events v.small.peak) (switched (get_or t.small.currents c idle) x (Some v.small.parked_id)) (switch_step (view t) c k)
         parks_over e a y = decide_over t c k b.sound b.on b.low b.up u r v l x d.at s h n is_at d.entry d.state next d.len (get_or t.small.currents c idle) (sym cur) (told false other) e a y
 
         pub parks-first : k ≡ exit → (a : ℕ) → a ≡ 1 → v.small.parked ≡ 0
-            → Does table t (put_rest (put_current (put_head (put_state v x.slot s) c h n) c x) a (get_or t.small.currents c idle) v.small.overwrites v.small.block_events v.small.peak) (switched (get_or t.small.currents c idle) x none) (switch_step (view t) c k)
+            → Does table t (put_rest (put_current (put_head (put_state v x.slot s) c h n) c x) a (get_or t.small.currents c idle) v.small.overwrites v.small.block_events v.small.peak) (switched (get_or t.small.currents c idle) x None) (switch_step (view t) c k)
         parks-first e a y = decide_first t c k b.sound b.on b.low b.up u r v l x d.at s h n is_at d.entry d.state next d.len (get_or t.small.currents c idle) (sym cur) (told false other) e a y

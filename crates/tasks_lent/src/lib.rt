@@ -1,5 +1,5 @@
-// The calls of the product on a task table whose arrays are lent: each takes any table whatever, tests it, and answers 1 or does what
-// the inner call does. The calls by value and the exports stand on these.
+// The calls of the product on a task table that is lent: each takes any table whatever, tests it, and answers 1 or does what the inner
+// call does. The calls by value and the exports stand on these.
 #![tactic(auto)]
 
 ghost use Rattle.answers.specs.Answers.{ack_reply, told_reply, count_reply, named_reply, stated_reply, homed_reply};
@@ -9,507 +9,209 @@ ghost use Rattle.model.specs.Reads.{current_reply, idle_reply, ready_reply, star
 ghost use Rattle.memory.specs.Lent.{MeetsLent, AnswersLent};
 ghost use Rattle.switch.specs.Decisions.{kind_of, decision_reply};
 
-use answers::{Ack, Count, Homed, Named, Refusal, Stated, Told};
+use answers::{Refusal, State};
 use ids::TaskId;
-use memory::{LentAck, LentNamed, LentTold, Small};
-use switch::{Decision, Kind, LentDecision};
+use memory::{TasksMut, TasksRef};
+use switch::{Decision, Kind};
 
 // CALLS THAT CHANGE THE TABLE
 
-pub fn start_at(
-    states: &mut [u8; 64],
-    epochs: &mut [u16; 64],
-    homes: &mut [u8; 64],
-    marks: &mut [u8; 64],
-    ring_slots: &mut [u16; 128],
-    ring_epochs: &mut [u16; 128],
-    s: Small,
-) -> LentAck
-    ensures { MeetsLent states epochs homes marks ring_slots ring_epochs s result.small (ack_reply result.answer) start_step }
+pub fn start_at(t: &mut TasksMut) -> Result<(), Refusal>
+    ensures { MeetsLent t.old t.new (ack_reply result) start_step }
 {
-    if !checks::sound_at(states, epochs, homes, marks, ring_slots, ring_epochs, s) {
-        return LentAck {
-            small: s,
-            answer: Ack::Refused(Refusal::BadTable),
-        };
+    if !checks::sound_at(t.show()) {
+        return Err(Refusal::BadTable);
     }
-    moves::start_in(states, epochs, homes, marks, ring_slots, ring_epochs, s)
+    moves::start_in(t)
 }
 
-pub fn start_cpu1_at(
-    states: &mut [u8; 64],
-    epochs: &mut [u16; 64],
-    homes: &mut [u8; 64],
-    marks: &mut [u8; 64],
-    ring_slots: &mut [u16; 128],
-    ring_epochs: &mut [u16; 128],
-    s: Small,
-) -> LentNamed
-    ensures { MeetsLent states epochs homes marks ring_slots ring_epochs s result.small (named_reply result.answer) (λ m. start_cpu_step m 1) }
+pub fn start_cpu1_at(t: &mut TasksMut) -> Result<Option<TaskId>, Refusal>
+    ensures { MeetsLent t.old t.new (named_reply result) (λ m. start_cpu_step m 1) }
 {
-    if !checks::sound_at(states, epochs, homes, marks, ring_slots, ring_epochs, s) {
-        return LentNamed {
-            small: s,
-            answer: Named::Refused(Refusal::BadTable),
-        };
+    if !checks::sound_at(t.show()) {
+        return Err(Refusal::BadTable);
     }
-    moves::start_cpu_in(states, epochs, homes, marks, ring_slots, ring_epochs, s, 1)
+    moves::start_cpu_in(t, 1)
 }
 
-pub fn admit_on_at(
-    states: &mut [u8; 64],
-    epochs: &mut [u16; 64],
-    homes: &mut [u8; 64],
-    marks: &mut [u8; 64],
-    ring_slots: &mut [u16; 128],
-    ring_epochs: &mut [u16; 128],
-    s: Small,
-    cpu: u8,
-) -> LentNamed
-    ensures { MeetsLent states epochs homes marks ring_slots ring_epochs s result.small (named_reply result.answer) (λ m. admit_step m cpu) }
+pub fn admit_on_at(t: &mut TasksMut, cpu: u8) -> Result<Option<TaskId>, Refusal>
+    ensures { MeetsLent t.old t.new (named_reply result) (λ m. admit_step m cpu) }
 {
-    if !checks::sound_at(states, epochs, homes, marks, ring_slots, ring_epochs, s) {
-        return LentNamed {
-            small: s,
-            answer: Named::Refused(Refusal::BadTable),
-        };
+    if !checks::sound_at(t.show()) {
+        return Err(Refusal::BadTable);
     }
-    moves::admit_on_in(
-        states,
-        epochs,
-        homes,
-        marks,
-        ring_slots,
-        ring_epochs,
-        s,
-        cpu,
-    )
+    moves::admit_on_in(t, cpu)
 }
 
-pub fn set_stealeable_at(
-    states: &mut [u8; 64],
-    epochs: &mut [u16; 64],
-    homes: &mut [u8; 64],
-    marks: &mut [u8; 64],
-    ring_slots: &mut [u16; 128],
-    ring_epochs: &mut [u16; 128],
-    s: Small,
-    id: TaskId,
-    mark: bool,
-) -> LentTold
-    ensures { MeetsLent states epochs homes marks ring_slots ring_epochs s result.small (told_reply result.answer) (λ m. mark_step m id mark) }
+pub fn set_stealeable_at(t: &mut TasksMut, id: TaskId, mark: bool) -> Result<bool, Refusal>
+    ensures { MeetsLent t.old t.new (told_reply result) (λ m. mark_step m id mark) }
 {
-    if !checks::sound_at(states, epochs, homes, marks, ring_slots, ring_epochs, s) {
-        return LentTold {
-            small: s,
-            answer: Told::Refused(Refusal::BadTable),
-        };
+    if !checks::sound_at(t.show()) {
+        return Err(Refusal::BadTable);
     }
-    moves::set_stealeable_in(
-        states,
-        epochs,
-        homes,
-        marks,
-        ring_slots,
-        ring_epochs,
-        s,
-        id,
-        mark,
-    )
+    moves::set_stealeable_in(t, id, mark)
 }
 
-pub fn wake_at(
-    states: &mut [u8; 64],
-    epochs: &mut [u16; 64],
-    homes: &mut [u8; 64],
-    marks: &mut [u8; 64],
-    ring_slots: &mut [u16; 128],
-    ring_epochs: &mut [u16; 128],
-    s: Small,
-    id: TaskId,
-) -> LentTold
-    ensures { MeetsLent states epochs homes marks ring_slots ring_epochs s result.small (told_reply result.answer) (λ m. wake_step m id) }
+pub fn wake_at(t: &mut TasksMut, id: TaskId) -> Result<bool, Refusal>
+    ensures { MeetsLent t.old t.new (told_reply result) (λ m. wake_step m id) }
 {
-    if !checks::sound_at(states, epochs, homes, marks, ring_slots, ring_epochs, s) {
-        return LentTold {
-            small: s,
-            answer: Told::Refused(Refusal::BadTable),
-        };
+    if !checks::sound_at(t.show()) {
+        return Err(Refusal::BadTable);
     }
-    moves::wake_in(states, epochs, homes, marks, ring_slots, ring_epochs, s, id)
+    moves::wake_in(t, id)
 }
 
-pub fn collect_at(
-    states: &mut [u8; 64],
-    epochs: &mut [u16; 64],
-    homes: &mut [u8; 64],
-    marks: &mut [u8; 64],
-    ring_slots: &mut [u16; 128],
-    ring_epochs: &mut [u16; 128],
-    s: Small,
-) -> LentNamed
-    ensures { MeetsLent states epochs homes marks ring_slots ring_epochs s result.small (named_reply result.answer) collect_step }
+pub fn collect_at(t: &mut TasksMut) -> Result<Option<TaskId>, Refusal>
+    ensures { MeetsLent t.old t.new (named_reply result) collect_step }
 {
-    if !checks::sound_at(states, epochs, homes, marks, ring_slots, ring_epochs, s) {
-        return LentNamed {
-            small: s,
-            answer: Named::Refused(Refusal::BadTable),
-        };
+    if !checks::sound_at(t.show()) {
+        return Err(Refusal::BadTable);
     }
-    moves::collect_in(states, epochs, homes, marks, ring_slots, ring_epochs, s)
+    moves::collect_in(t)
 }
 
-pub fn try_steal_into_at(
-    states: &mut [u8; 64],
-    epochs: &mut [u16; 64],
-    homes: &mut [u8; 64],
-    marks: &mut [u8; 64],
-    ring_slots: &mut [u16; 128],
-    ring_epochs: &mut [u16; 128],
-    s: Small,
-    thief: u8,
-) -> LentTold
-    ensures { MeetsLent states epochs homes marks ring_slots ring_epochs s result.small (told_reply result.answer) (λ m. try_steal_step m thief) }
+pub fn try_steal_into_at(t: &mut TasksMut, thief: u8) -> Result<bool, Refusal>
+    ensures { MeetsLent t.old t.new (told_reply result) (λ m. try_steal_step m thief) }
 {
-    if !checks::sound_at(states, epochs, homes, marks, ring_slots, ring_epochs, s) {
-        return LentTold {
-            small: s,
-            answer: Told::Refused(Refusal::BadTable),
-        };
+    if !checks::sound_at(t.show()) {
+        return Err(Refusal::BadTable);
     }
-    steal::try_steal_into_in(
-        states,
-        epochs,
-        homes,
-        marks,
-        ring_slots,
-        ring_epochs,
-        s,
-        thief,
-    )
+    steal::try_steal_into_in(t, thief)
 }
 
-pub fn switch_on_at(
-    states: &mut [u8; 64],
-    epochs: &mut [u16; 64],
-    homes: &mut [u8; 64],
-    marks: &mut [u8; 64],
-    ring_slots: &mut [u16; 128],
-    ring_epochs: &mut [u16; 128],
-    s: Small,
-    cpu: u8,
-    kind: Kind,
-) -> LentDecision
-    ensures { MeetsLent states epochs homes marks ring_slots ring_epochs s result.small (decision_reply result.answer) (λ m. switch_step m cpu (kind_of kind)) }
+pub fn switch_on_at(t: &mut TasksMut, cpu: u8, kind: Kind) -> Result<Decision, Refusal>
+    ensures { MeetsLent t.old t.new (decision_reply result) (λ m. switch_step m cpu (kind_of kind)) }
 {
-    if !checks::sound_at(states, epochs, homes, marks, ring_slots, ring_epochs, s) {
-        return LentDecision {
-            small: s,
-            answer: Decision::Refused(Refusal::BadTable),
-        };
+    if !checks::sound_at(t.show()) {
+        return Err(Refusal::BadTable);
     }
-    switch::switch_on_in(
-        states,
-        epochs,
-        homes,
-        marks,
-        ring_slots,
-        ring_epochs,
-        s,
-        cpu,
-        kind,
-    )
+    switch::switch_on_in(t, cpu, kind)
 }
 
 // READS
 
-pub fn current_on_at<'a>(
-    states: &'a [u8; 64],
-    epochs: &'a [u16; 64],
-    homes: &'a [u8; 64],
-    marks: &'a [u8; 64],
-    ring_slots: &'a [u16; 128],
-    ring_epochs: &'a [u16; 128],
-    s: Small,
-    cpu: u8,
-) -> Named
-    ensures { AnswersLent states epochs homes marks ring_slots ring_epochs s (named_reply result) (λ m. current_reply m cpu) }
+pub fn current_on_at(t: TasksRef, cpu: u8) -> Result<Option<TaskId>, Refusal>
+    ensures { AnswersLent t.entry (named_reply result) (λ m. current_reply m cpu) }
 {
-    if !checks::sound_at(states, epochs, homes, marks, ring_slots, ring_epochs, s) {
-        return Named::Refused(Refusal::BadTable);
+    if !checks::sound_at(t) {
+        return Err(Refusal::BadTable);
     }
-    reads::current_on_in(
-        states,
-        epochs,
-        homes,
-        marks,
-        ring_slots,
-        ring_epochs,
-        s,
-        cpu,
-    )
+    reads::current_on_in(t, cpu)
 }
 
-pub fn idle_of_at<'a>(
-    states: &'a [u8; 64],
-    epochs: &'a [u16; 64],
-    homes: &'a [u8; 64],
-    marks: &'a [u8; 64],
-    ring_slots: &'a [u16; 128],
-    ring_epochs: &'a [u16; 128],
-    s: Small,
-    cpu: u8,
-) -> Named
-    ensures { AnswersLent states epochs homes marks ring_slots ring_epochs s (named_reply result) (λ m. idle_reply m cpu) }
+pub fn idle_of_at(t: TasksRef, cpu: u8) -> Result<Option<TaskId>, Refusal>
+    ensures { AnswersLent t.entry (named_reply result) (λ m. idle_reply m cpu) }
 {
-    if !checks::sound_at(states, epochs, homes, marks, ring_slots, ring_epochs, s) {
-        return Named::Refused(Refusal::BadTable);
+    if !checks::sound_at(t) {
+        return Err(Refusal::BadTable);
     }
-    reads::idle_of_in(
-        states,
-        epochs,
-        homes,
-        marks,
-        ring_slots,
-        ring_epochs,
-        s,
-        cpu,
-    )
+    reads::idle_of_in(t, cpu)
 }
 
-pub fn has_ready_on_at<'a>(
-    states: &'a [u8; 64],
-    epochs: &'a [u16; 64],
-    homes: &'a [u8; 64],
-    marks: &'a [u8; 64],
-    ring_slots: &'a [u16; 128],
-    ring_epochs: &'a [u16; 128],
-    s: Small,
-    cpu: u8,
-) -> Told
-    ensures { AnswersLent states epochs homes marks ring_slots ring_epochs s (told_reply result) (λ m. ready_reply m cpu) }
+pub fn has_ready_on_at(t: TasksRef, cpu: u8) -> Result<bool, Refusal>
+    ensures { AnswersLent t.entry (told_reply result) (λ m. ready_reply m cpu) }
 {
-    if !checks::sound_at(states, epochs, homes, marks, ring_slots, ring_epochs, s) {
-        return Told::Refused(Refusal::BadTable);
+    if !checks::sound_at(t) {
+        return Err(Refusal::BadTable);
     }
-    reads::has_ready_on_in(
-        states,
-        epochs,
-        homes,
-        marks,
-        ring_slots,
-        ring_epochs,
-        s,
-        cpu,
-    )
+    reads::has_ready_on_in(t, cpu)
 }
 
-pub fn cpu1_started_at<'a>(
-    states: &'a [u8; 64],
-    epochs: &'a [u16; 64],
-    homes: &'a [u8; 64],
-    marks: &'a [u8; 64],
-    ring_slots: &'a [u16; 128],
-    ring_epochs: &'a [u16; 128],
-    s: Small,
-) -> Told
-    ensures { AnswersLent states epochs homes marks ring_slots ring_epochs s (told_reply result) (λ m. started_reply m 1) }
+pub fn cpu1_started_at(t: TasksRef) -> Result<bool, Refusal>
+    ensures { AnswersLent t.entry (told_reply result) (λ m. started_reply m 1) }
 {
-    if !checks::sound_at(states, epochs, homes, marks, ring_slots, ring_epochs, s) {
-        return Told::Refused(Refusal::BadTable);
+    if !checks::sound_at(t) {
+        return Err(Refusal::BadTable);
     }
-    reads::cpu1_started_in(states, epochs, homes, marks, ring_slots, ring_epochs, s)
+    reads::cpu1_started_in(t)
 }
 
-pub fn state_at<'a>(
-    states: &'a [u8; 64],
-    epochs: &'a [u16; 64],
-    homes: &'a [u8; 64],
-    marks: &'a [u8; 64],
-    ring_slots: &'a [u16; 128],
-    ring_epochs: &'a [u16; 128],
-    s: Small,
-    id: TaskId,
-) -> Stated
-    ensures { AnswersLent states epochs homes marks ring_slots ring_epochs s (stated_reply result) (λ m. state_reply m id) }
+pub fn state_at(t: TasksRef, id: TaskId) -> Result<Option<State>, Refusal>
+    ensures { AnswersLent t.entry (stated_reply result) (λ m. state_reply m id) }
 {
-    if !checks::sound_at(states, epochs, homes, marks, ring_slots, ring_epochs, s) {
-        return Stated::Refused(Refusal::BadTable);
+    if !checks::sound_at(t) {
+        return Err(Refusal::BadTable);
     }
-    reads::state_in(states, epochs, homes, marks, ring_slots, ring_epochs, s, id)
+    reads::state_in(t, id)
 }
 
-pub fn home_of_at<'a>(
-    states: &'a [u8; 64],
-    epochs: &'a [u16; 64],
-    homes: &'a [u8; 64],
-    marks: &'a [u8; 64],
-    ring_slots: &'a [u16; 128],
-    ring_epochs: &'a [u16; 128],
-    s: Small,
-    id: TaskId,
-) -> Homed
-    ensures { AnswersLent states epochs homes marks ring_slots ring_epochs s (homed_reply result) (λ m. home_reply m id) }
+pub fn home_of_at(t: TasksRef, id: TaskId) -> Result<Option<u8>, Refusal>
+    ensures { AnswersLent t.entry (homed_reply result) (λ m. home_reply m id) }
 {
-    if !checks::sound_at(states, epochs, homes, marks, ring_slots, ring_epochs, s) {
-        return Homed::Refused(Refusal::BadTable);
+    if !checks::sound_at(t) {
+        return Err(Refusal::BadTable);
     }
-    reads::home_of_in(states, epochs, homes, marks, ring_slots, ring_epochs, s, id)
+    reads::home_of_in(t, id)
 }
 
-pub fn live_id_at<'a>(
-    states: &'a [u8; 64],
-    epochs: &'a [u16; 64],
-    homes: &'a [u8; 64],
-    marks: &'a [u8; 64],
-    ring_slots: &'a [u16; 128],
-    ring_epochs: &'a [u16; 128],
-    s: Small,
-    slot: usize,
-) -> Named
-    ensures { AnswersLent states epochs homes marks ring_slots ring_epochs s (named_reply result) (λ m. live_reply m slot) }
+pub fn live_id_at(t: TasksRef, slot: usize) -> Result<Option<TaskId>, Refusal>
+    ensures { AnswersLent t.entry (named_reply result) (λ m. live_reply m slot) }
 {
-    if !checks::sound_at(states, epochs, homes, marks, ring_slots, ring_epochs, s) {
-        return Named::Refused(Refusal::BadTable);
+    if !checks::sound_at(t) {
+        return Err(Refusal::BadTable);
     }
-    reads::live_id_in(
-        states,
-        epochs,
-        homes,
-        marks,
-        ring_slots,
-        ring_epochs,
-        s,
-        slot,
-    )
+    reads::live_id_in(t, slot)
 }
 
-pub fn is_stealeable_at<'a>(
-    states: &'a [u8; 64],
-    epochs: &'a [u16; 64],
-    homes: &'a [u8; 64],
-    marks: &'a [u8; 64],
-    ring_slots: &'a [u16; 128],
-    ring_epochs: &'a [u16; 128],
-    s: Small,
-    id: TaskId,
-) -> Told
-    ensures { AnswersLent states epochs homes marks ring_slots ring_epochs s (told_reply result) (λ m. stealeable_reply m id) }
+pub fn is_stealeable_at(t: TasksRef, id: TaskId) -> Result<bool, Refusal>
+    ensures { AnswersLent t.entry (told_reply result) (λ m. stealeable_reply m id) }
 {
-    if !checks::sound_at(states, epochs, homes, marks, ring_slots, ring_epochs, s) {
-        return Told::Refused(Refusal::BadTable);
+    if !checks::sound_at(t) {
+        return Err(Refusal::BadTable);
     }
-    reads::is_stealeable_in(states, epochs, homes, marks, ring_slots, ring_epochs, s, id)
+    reads::is_stealeable_in(t, id)
 }
 
-pub fn can_steal_into_at<'a>(
-    states: &'a [u8; 64],
-    epochs: &'a [u16; 64],
-    homes: &'a [u8; 64],
-    marks: &'a [u8; 64],
-    ring_slots: &'a [u16; 128],
-    ring_epochs: &'a [u16; 128],
-    s: Small,
-    thief: u8,
-) -> Told
-    ensures { AnswersLent states epochs homes marks ring_slots ring_epochs s (told_reply result) (λ m. can_steal_reply m thief) }
+pub fn can_steal_into_at(t: TasksRef, thief: u8) -> Result<bool, Refusal>
+    ensures { AnswersLent t.entry (told_reply result) (λ m. can_steal_reply m thief) }
 {
-    if !checks::sound_at(states, epochs, homes, marks, ring_slots, ring_epochs, s) {
-        return Told::Refused(Refusal::BadTable);
+    if !checks::sound_at(t) {
+        return Err(Refusal::BadTable);
     }
-    reads::can_steal_into_in(
-        states,
-        epochs,
-        homes,
-        marks,
-        ring_slots,
-        ring_epochs,
-        s,
-        thief,
-    )
+    reads::can_steal_into_in(t, thief)
 }
 
-pub fn overwrites_at<'a>(
-    states: &'a [u8; 64],
-    epochs: &'a [u16; 64],
-    homes: &'a [u8; 64],
-    marks: &'a [u8; 64],
-    ring_slots: &'a [u16; 128],
-    ring_epochs: &'a [u16; 128],
-    s: Small,
-) -> Count
-    ensures { AnswersLent states epochs homes marks ring_slots ring_epochs s (count_reply result) overwrites_reply }
+pub fn overwrites_at(t: TasksRef) -> Result<u64, Refusal>
+    ensures { AnswersLent t.entry (count_reply result) overwrites_reply }
 {
-    if !checks::sound_at(states, epochs, homes, marks, ring_slots, ring_epochs, s) {
-        return Count::Refused(Refusal::BadTable);
+    if !checks::sound_at(t) {
+        return Err(Refusal::BadTable);
     }
-    reads::overwrites_in(states, epochs, homes, marks, ring_slots, ring_epochs, s)
+    reads::overwrites_in(t)
 }
 
-pub fn blocked_count_at<'a>(
-    states: &'a [u8; 64],
-    epochs: &'a [u16; 64],
-    homes: &'a [u8; 64],
-    marks: &'a [u8; 64],
-    ring_slots: &'a [u16; 128],
-    ring_epochs: &'a [u16; 128],
-    s: Small,
-) -> Count
-    ensures { AnswersLent states epochs homes marks ring_slots ring_epochs s (count_reply result) blocked_reply }
+pub fn blocked_count_at(t: TasksRef) -> Result<u64, Refusal>
+    ensures { AnswersLent t.entry (count_reply result) blocked_reply }
 {
-    if !checks::sound_at(states, epochs, homes, marks, ring_slots, ring_epochs, s) {
-        return Count::Refused(Refusal::BadTable);
+    if !checks::sound_at(t) {
+        return Err(Refusal::BadTable);
     }
-    reads::blocked_count_in(states, epochs, homes, marks, ring_slots, ring_epochs, s)
+    reads::blocked_count_in(t)
 }
 
-pub fn block_events_at<'a>(
-    states: &'a [u8; 64],
-    epochs: &'a [u16; 64],
-    homes: &'a [u8; 64],
-    marks: &'a [u8; 64],
-    ring_slots: &'a [u16; 128],
-    ring_epochs: &'a [u16; 128],
-    s: Small,
-) -> Count
-    ensures { AnswersLent states epochs homes marks ring_slots ring_epochs s (count_reply result) block_events_reply }
+pub fn block_events_at(t: TasksRef) -> Result<u64, Refusal>
+    ensures { AnswersLent t.entry (count_reply result) block_events_reply }
 {
-    if !checks::sound_at(states, epochs, homes, marks, ring_slots, ring_epochs, s) {
-        return Count::Refused(Refusal::BadTable);
+    if !checks::sound_at(t) {
+        return Err(Refusal::BadTable);
     }
-    reads::block_events_in(states, epochs, homes, marks, ring_slots, ring_epochs, s)
+    reads::block_events_in(t)
 }
 
-pub fn live_count_at<'a>(
-    states: &'a [u8; 64],
-    epochs: &'a [u16; 64],
-    homes: &'a [u8; 64],
-    marks: &'a [u8; 64],
-    ring_slots: &'a [u16; 128],
-    ring_epochs: &'a [u16; 128],
-    s: Small,
-) -> Count
-    ensures { AnswersLent states epochs homes marks ring_slots ring_epochs s (count_reply result) live_count_reply }
+pub fn live_count_at(t: TasksRef) -> Result<u64, Refusal>
+    ensures { AnswersLent t.entry (count_reply result) live_count_reply }
 {
-    if !checks::sound_at(states, epochs, homes, marks, ring_slots, ring_epochs, s) {
-        return Count::Refused(Refusal::BadTable);
+    if !checks::sound_at(t) {
+        return Err(Refusal::BadTable);
     }
-    reads::live_count_in(states, epochs, homes, marks, ring_slots, ring_epochs, s)
+    reads::live_count_in(t)
 }
 
-pub fn peak_slots_at<'a>(
-    states: &'a [u8; 64],
-    epochs: &'a [u16; 64],
-    homes: &'a [u8; 64],
-    marks: &'a [u8; 64],
-    ring_slots: &'a [u16; 128],
-    ring_epochs: &'a [u16; 128],
-    s: Small,
-) -> Count
-    ensures { AnswersLent states epochs homes marks ring_slots ring_epochs s (count_reply result) peak_reply }
+pub fn peak_slots_at(t: TasksRef) -> Result<u64, Refusal>
+    ensures { AnswersLent t.entry (count_reply result) peak_reply }
 {
-    if !checks::sound_at(states, epochs, homes, marks, ring_slots, ring_epochs, s) {
-        return Count::Refused(Refusal::BadTable);
+    if !checks::sound_at(t) {
+        return Err(Refusal::BadTable);
     }
-    reads::peak_slots_in(states, epochs, homes, marks, ring_slots, ring_epochs, s)
+    reads::peak_slots_in(t)
 }

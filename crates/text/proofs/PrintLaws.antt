@@ -1,15 +1,8 @@
 -- Laws on texts that are written.
-use mathlib.Core.Path.{◌≡◌, refl, sym, ap, subst, ◌∙◌}
-use mathlib.Core.Bool.{Bool, true, false, cond}
-use mathlib.Core.List.{List, [], ◌∷◌, ◌++◌, append_assoc}
-use Prim.Native.Nat.{ℕ, zero, suc, ◌+◌, ◌/◌, ◌%◌, ◌^◌, ◌≤◌, ◌<◌, zero-le, suc-le-suc}
-use native.Mathlib.Nat.{pow-suc}
-use native.Mathlib.Numerals.{add-one}
-use native.Mathlib.Omega.{arith}
-use lib.Dec.{ltb}
-use lib.ListN.{length, take, drop, set, get_or, length-set, length-append}
-use lib.Seq.{take_at, drop_at, drop-drop, take-suc, take_all, length-take-le, set_split, append_snoc, paste-zero}
-use borrow.Author.Tests.{lt-ltb, le-ltb}
+use Rattle.std.proofs.Common.{◌≡◌, refl, sym, ap, subst, ◌∙◌, Bool, true, false, cond, List, [], ◌∷◌, ◌++◌, append_assoc, ℕ, zero, suc, ◌+◌, ◌-◌, ◌/◌, ◌%◌, ◌^◌, ◌≤◌, ◌<◌, zero-le, suc-le-suc, pow-suc, arith, ltb, length, take, drop, length-append, take_at, drop_at, drop-drop, length-take-le, rules, lt-ltb, le-ltb}
+use lib.Seq.{paste-zero}
+use borrow.Rule.Slice.PartMut.{put_mid}
+use Rattle.std.proofs.lemmas.Slice.{overwrites}
 use Rattle.text.specs.Print.{digits, decimal, two_digits, put, Wrote}
 
 -- DIGITS
@@ -123,47 +116,18 @@ then {o} {p} {q} {at} {r} {e} {s} {t} a b =
 pub then_both : {o p q : List ℕ} {at r e : ℕ} {s : List ℕ} (t u : List ℕ) → Wrote o at s r p → Wrote p r (t ++ u) e q → Wrote o at (s ++ t ++ u) e q
 then_both {o} {p} {q} {at} {r} {e} {s} t u a b = wrote_as (sym (append_assoc s t u)) (then a b)
 
--- one store is a text of one byte
-pub stored : (o : List ℕ) (at x : ℕ) → at < length o → Wrote o at (x ∷ []) (at + 1) (set o at x)
-unfolding put
-stored o at x h =
-    record {
-      end = refl;
-      fits = omega arith;
-      size = length-set o at x;
-      all = set_split o at x h ∙ sym (append_snoc (take at o) x (drop (suc at) o)) ∙ ap (λ (n : ℕ). take at o ++ (x ∷ []) ++ drop n o) (sym (add-one at));
-    }
-
--- a store moves no end
-pub behind_store : (o : List ℕ) (at x k : ℕ) → k < length o → k < length (set o at x)
-behind_store o at x k h = rw (length-set o at x) h
-
 pub wrote_none : (o : List ℕ) (at : ℕ) → at ≤ length o → Wrote o at [] at o
 unfolding put
 wrote_none o at h = record { end = omega arith; fits = h; size = refl; all = paste-zero o at [] }
 
--- a text, and one byte after it
-pub then_byte : {o p : List ℕ} {at r : ℕ} {s : List ℕ} (x : ℕ) → Wrote o at s r p → r < length p → Wrote o at (s ++ (x ∷ [])) (r + 1) (set p r x)
-then_byte {o} {p} {at} {r} x w h = then w (stored p r x h)
-
--- where a text and one after it fit, and the first is written, there is room for the second
-pub room : {o p : List ℕ} {at r : ℕ} {s : List ℕ} (t : List ℕ) → Wrote o at s r p → at + length (s ++ t) ≤ length o → r + length t ≤ length p
-room {o} {p} {at} {r} {s} t w h = omega (arith, length-append s t, w.end, w.size)
-
--- A COPY, BYTE BY BYTE
-
-pub copy_none : (o : List ℕ) (at : ℕ) (s : List ℕ) → at ≤ length o → Wrote o at (take 0 s) (at + 0) o
-copy_none o at s h = let e : at ≡ at + 0 = omega arith in subst (λ (r : ℕ). Wrote o at [] r o) e (wrote_none o at h)
-
-pub copy_more : (o p s : List ℕ) (at i : ℕ) → i < length s → at + length s ≤ length o → Wrote o at (take i s) (at + i) p
-    → Wrote o at (take (i + 1) s) (at + (i + 1)) (set p (at + i) (get_or s i 0))
-copy_more o p s at i h room w =
-    let l : length (take i s) ≡ i = length-take-le i s (omega arith) in
-    let fits : at + i < length p = omega (arith, w.size) in
-    let one : at + i + 1 ≡ at + (i + 1) = omega arith in
-    let both = then w (stored p (at + i) (get_or s i 0) fits) in
-    subst (λ (r : ℕ). Wrote o at (take (i + 1) s) r (set p (at + i) (get_or s i 0))) one
-    (wrote_as (sym (ap (λ (n : ℕ). take n s) (add-one i) ∙ take-suc s i 0 h)) both)
-
-pub copy_all : (o p s : List ℕ) (at i : ℕ) → length s ≤ i → Wrote o at (take i s) (at + i) p → Wrote o at s (at + i) p
-copy_all o p s at i h w = wrote_as (take_all i s h) w
+-- a text that is copied into its place is written
+pub copied : (o s : List ℕ) (at : ℕ) → at + length s ≤ length o → Wrote o at s (at + length s) (put_mid at (at + length s - at) o s)
+unfolding put
+copied o s at h =
+    let n : at + length s - at ≡ length s = omega arith in
+    record {
+      end = refl;
+      fits = h;
+      size = search (rules, overwrites);
+      all = rw (n, sym (drop-drop (length s) at o)) (sym (append_assoc (take at o) s (drop (length s) (drop at o))));
+    }

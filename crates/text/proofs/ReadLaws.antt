@@ -1,18 +1,11 @@
 -- Laws on texts that are read, in the form that the readers' code meets.
-use mathlib.Core.Path.{◌≡◌, refl, sym, ap, ◌∙◌}
-use mathlib.Core.Bool.{Bool, true, false, cond}
-use mathlib.Core.List.{List, [], ◌∷◌}
-use mathlib.Core.Logic.{⊎_elim}
-use mathlib.Core.Option.{Option, none, some}
-use Prim.Native.Nat.{ℕ, suc, ◌+◌, ◌*◌, ◌-◌, ◌≤◌, ◌<◌, zero-le, suc-le-suc}
-use native.Mathlib.Nat.{le_of_suc-le-suc, not-suc-le-zero}
-use native.Mathlib.Numerals.{add-one}
-use native.Mathlib.Omega.{arith}
-use borrow.Author.Tests.{eq-eqb, ne_eqb, eqb-true, le-leb, lt-leb, leb-true}
-use lib.Dec.{eqb, leb}
-use lib.ListN.{length, take, drop, get_or, drop_of_length-le}
-use lib.Seq.{drop-cons, take_all}
-use Rattle.lists.specs.Search.{first_at}
+use Rattle.std.proofs.Common.{Option, Some, None, ◌≡◌, refl, sym, ap, ◌∙◌, Bool, true, false, cond, ◌&&◌, List, [], ◌∷◌, ⊎_elim, ℕ, suc, ◌+◌, ◌*◌, ◌-◌, ◌≤◌, ◌<◌, zero-le, suc-le-suc, le_of_suc-le-suc, not-suc-le-zero, add-one, arith, eqb-true, le-leb, leb-true, eqb, leb, ltb, length, take, drop, get_or, drop_of_length-le, drop-cons, take_all}
+use borrow.Author.Tests.{lt-leb}
+use Rattle.std.specs.Cmp.Lexicographic.{pointwise}
+use Rattle.std.specs.Option.{unwrap_or}
+use Rattle.std.specs.List.{position, position_or_len}
+use Rattle.std.proofs.lemmas.Bool.{ltb-false}
+use Rattle.std.proofs.lemmas.List.Recursion.{is_position_or_len}
 use Rattle.lists.proofs.Basics.{lt_or_ge, not_both}
 use Rattle.text.specs.Text.{SPACE, SLASH, FEED, bytes, same, split, onto, trim, lines, up_to, is_digit, value, at_most, number}
 
@@ -34,32 +27,32 @@ case_counts : same (bytes "pop") (bytes "Pop") ≡ false
 unfolding same
 case_counts = refl
 
-leading_zeros : number 65535 (bytes "00065535") ≡ some 65535
+leading_zeros : number 65535 (bytes "00065535") ≡ Some 65535
 unfolding number value
 leading_zeros = refl
 
-one_too_large : number 65535 (bytes "65536") ≡ none
+one_too_large : number 65535 (bytes "65536") ≡ None
 unfolding number value
 one_too_large = refl
 
-largest_of_all : number 18446744073709551615 (bytes "18446744073709551615") ≡ some 18446744073709551615
+largest_of_all : number 18446744073709551615 (bytes "18446744073709551615") ≡ Some 18446744073709551615
 unfolding number value
 largest_of_all = refl
 
-beyond_all : number 18446744073709551615 (bytes "18446744073709551616") ≡ none
+beyond_all : number 18446744073709551615 (bytes "18446744073709551616") ≡ None
 unfolding number value
 beyond_all = refl
 
-no_digits : number 65535 [] ≡ none
+no_digits : number 65535 [] ≡ None
 unfolding number
 no_digits = refl
 
-no_sign : number 65535 (bytes "+1") ≡ none
+no_sign : number 65535 (bytes "+1") ≡ None
 unfolding number value
 no_sign = refl
 
 -- the byte after 9
-no_colon : number 65535 (bytes "1:") ≡ none
+no_colon : number 65535 (bytes "1:") ≡ None
 unfolding number value
 no_colon = refl
 
@@ -96,39 +89,19 @@ same_is (x ∷ a) (y ∷ b) e = go (eqb x y) refl e (same_is a b)
     go true f g r = rw (eqb-true x y f, r g)
     go false f g r = absurd (not_both g refl)
 
-pub same_length : (a b : List ℕ) → (length a ≡ length b → ⊥) → false ≡ same a b
+-- what `==` says of two slices
+pub pointwise_same : (a b : List ℕ) → pointwise eqb a b ≡ same a b
 unfolding same
-same_length [] [] h = absurd (h refl)
-same_length [] (y ∷ b) h = refl
-same_length (x ∷ a) [] h = refl
-same_length (x ∷ a) (y ∷ b) h = rw (sym (same_length a b (λ e. h (ap suc e)))) (go (eqb x y))
+pointwise_same [] [] = refl
+pointwise_same [] (y ∷ b) = refl
+pointwise_same (x ∷ a) [] = refl
+pointwise_same (x ∷ a) (y ∷ b) = go (eqb x y) (pointwise_same a b)
   where
-    go : (t : Bool) → false ≡ cond t false false
-    go true = refl
-    go false = refl
-
--- a comparison that has passed i bytes
-module _ (a b : List ℕ) (i : ℕ) (inv : same a b ≡ same (drop i a) (drop i b)) where
-  pub same-done : length a ≤ i → length b ≤ i → true ≡ same a b
-  unfolding same
-  same-done la lb = rw (inv, drop_of_length-le a la, drop_of_length-le b lb)
-
-  module _ (la : i < length a) (lb : i < length b) where
-    pub same_next : get_or a i 0 ≡ get_or b i 0 → same a b ≡ same (drop (i + 1) a) (drop (i + 1) b)
-    unfolding same
-    same_next e = inv ∙ rw (add-one, drop-cons a i 0 la, drop-cons b i 0 lb, eq-eqb _ _ e)
-
-    pub same_stop : (get_or a i 0 ≡ get_or b i 0 → ⊥) → false ≡ same a b
-    unfolding same
-    same_stop e = sym (inv ∙ rw (drop-cons a i 0 la, drop-cons b i 0 lb, ne_eqb _ _ e))
+    go : (t : Bool) → pointwise eqb a b ≡ same a b → (t && pointwise eqb a b) ≡ cond t (same a b) false
+    go true r = r
+    go false r = refl
 
 -- PARTS
-
--- a search for the separator like any other
-pub up_to-first : (s : ℕ) (l : List ℕ) → up_to s l ≡ first_at (λ x. eqb x s) l
-unfolding up_to first_at
-up_to-first s [] = refl
-up_to-first s (x ∷ l) = ap (λ (n : ℕ). cond (eqb x s) 0 (suc n)) (up_to-first s l)
 
 pub up_to-most : (s : ℕ) (l : List ℕ) → up_to s l ≤ length l
 unfolding up_to
@@ -138,6 +111,19 @@ up_to-most s (x ∷ l) = go (eqb x s) (up_to-most s l)
     go : (t : Bool) → up_to s l ≤ length l → cond t 0 (suc (up_to s l)) ≤ suc (length l)
     go true h = zero-le
     go false h = suc-le-suc h
+
+up_to_place : (s : ℕ) (l : List ℕ) → up_to s l ≡ position_or_len (λ x. eqb x s) l
+unfolding up_to
+up_to_place s l = is_position_or_len (up_to s) (λ x. eqb x s) refl (λ x xs. ap (cond (eqb x s) 0) (omega arith)) l
+
+-- a search for the separator like any other
+pub up_to_position : (s : ℕ) (l : List ℕ) → up_to s l ≡ unwrap_or (position (λ x. eqb x s) l) (length l)
+up_to_position s l = found (ltb (position_or_len (λ x. eqb x s) l) (length l)) refl
+  where
+    found : (t : Bool) → ltb (position_or_len (λ x. eqb x s) l) (length l) ≡ t
+        → up_to s l ≡ unwrap_or (cond t (Some (position_or_len (λ x. eqb x s) l)) None) (length l)
+    found true e = up_to_place s l
+    found false e = omega (arith, up_to_place s l, up_to-most s l, ltb-false _ _ e)
 
 split_last : (s : ℕ) (l : List ℕ) → length l ≤ up_to s l → split s l ≡ l ∷ []
 unfolding split up_to onto
@@ -214,7 +200,7 @@ lines_cons l w r a h e f g = ⊎_elim (λ (m : a < length l). more m) (λ (m : l
 
 -- NUMBERS
 
-pub number-none : (max : ℕ) (w : List ℕ) → length w ≡ 0 → none ≡ number max w
+pub number-none : (max : ℕ) (w : List ℕ) → length w ≡ 0 → None ≡ number max w
 unfolding number
 number-none max [] h = refl
 number-none max (d ∷ l) h = absurd (omega arith)
@@ -225,47 +211,43 @@ number-start max [] h = absurd (not-suc-le-zero h)
 number-start max (d ∷ l) h = refl
 
 -- digits never make a number smaller, so that a reader may stop at the first that makes it too large
-value_grows : (max v : ℕ) (l : List ℕ) → max < v → at_most max (value v l) ≡ none
+value_grows : (max v : ℕ) (l : List ℕ) → max < v → at_most max (value v l) ≡ None
 unfolding value
 value_grows max v [] h = rw (lt-leb v max h)
 value_grows max v (d ∷ l) h = go (is_digit d) (value_grows max (v * 10 + (d - 48)) l (omega arith))
   where
-    go : (t : Bool) → at_most max (value (v * 10 + (d - 48)) l) ≡ none → at_most max (cond t (value (v * 10 + (d - 48)) l) none) ≡ none
+    go : (t : Bool) → at_most max (value (v * 10 + (d - 48)) l) ≡ None → at_most max (cond t (value (v * 10 + (d - 48)) l) None) ≡ None
     go true r = r
     go false r = refl
 
 -- a reader that has passed i bytes worth v
 module _ (max v i : ℕ) (w : List ℕ) (inv : number max w ≡ at_most max (value v (drop i w))) where
-  pub number-done : length w ≤ i → v ≤ max → some v ≡ number max w
+  pub number-done : length w ≤ i → v ≤ max → Some v ≡ number max w
   unfolding value
   number-done h m = rw (inv, drop_of_length-le w h, le-leb v max m)
 
   module _ (h : i < length w) where
-    pub number-low : get_or w i 0 < 48 → none ≡ number max w
+    pub number_stop : is_digit (get_or w i 0) ≡ false → None ≡ number max w
     unfolding value
-    number-low e = rw (inv, drop-cons w i 0 h, lt-leb _ _ e)
+    number_stop e = rw (inv, drop-cons w i 0 h, e)
 
-    pub number-high : 48 ≤ get_or w i 0 → 57 < get_or w i 0 → none ≡ number max w
-    unfolding value
-    number-high e f = rw (inv, drop-cons w i 0 h, le-leb _ _ e, lt-leb _ _ f)
-
-    module _ (e : 48 ≤ get_or w i 0) (f : get_or w i 0 ≤ 57) where
+    module _ (e : is_digit (get_or w i 0) ≡ true) where
       pub number_more : (x : ℕ) → x ≡ get_or w i 0 - 48 → number max w ≡ at_most max (value (v * 10 + x) (drop (i + 1) w))
       unfolding value
-      number_more x g = rw (inv, add-one, drop-cons w i 0 h, le-leb _ _ e, le-leb _ _ f, g)
+      number_more x f = rw (inv, add-one, drop-cons w i 0 h, e, f)
 
-      pub number_big : max < v * 10 + (get_or w i 0 - 48) → none ≡ number max w
-      number_big big = sym (number_more _ refl ∙ value_grows max _ _ big)
+      pub number_big : (x : ℕ) → x ≡ get_or w i 0 - 48 → max < v * 10 + x → None ≡ number max w
+      number_big x f big = sym (number_more x f ∙ value_grows max _ _ big)
 
-pub number_fits : (max : ℕ) (w : List ℕ) (v : ℕ) → number max w ≡ some v → v ≤ max
+pub number_fits : (max : ℕ) (w : List ℕ) (v : ℕ) → number max w ≡ Some v → v ≤ max
 unfolding number
 number_fits max [] v e = let z : ◌≡◌ {A = ℕ} 0 1 = cc in omega arith
 number_fits max (d ∷ l) v e = of (value 0 (d ∷ l)) e
   where
-    pick : (x : ℕ) (t : Bool) → leb x max ≡ t → cond t (some x) none ≡ some v → v ≤ max
+    pick : (x : ℕ) (t : Bool) → leb x max ≡ t → cond t (Some x) None ≡ Some v → v ≤ max
     pick x true m e = let z : x ≡ v = cc in omega (arith, leb-true x max m)
     pick x false m e = let z : ◌≡◌ {A = ℕ} 0 1 = cc in omega arith
 
-    of : (o : Option ℕ) → at_most max o ≡ some v → v ≤ max
-    of none e = let z : ◌≡◌ {A = ℕ} 0 1 = cc in omega arith
-    of (some x) e = pick x (leb x max) refl e
+    of : (o : Option ℕ) → at_most max o ≡ Some v → v ≤ max
+    of None e = let z : ◌≡◌ {A = ℕ} 0 1 = cc in omega arith
+    of (Some x) e = pick x (leb x max) refl e

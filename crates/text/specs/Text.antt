@@ -1,7 +1,6 @@
--- Texts are lists of bytes. Document 01, "The program `events`": a line ends before its line feed, which the last line may
+-- Texts are lists of bytes. In a script a line ends before its line feed, which the last line may
 -- lack; words stand one space apart; numbers are decimal, leading zeros are allowed, and each has a largest value.
-use Rattle.std.specs.Prelude.{Bool, true, false, cond, ◌&&◌, List, [], ◌∷◌, ℕ, suc, ◌+◌, ◌*◌, ◌-◌, eqb, leb}
-use Rattle.std.proofs.Math.Option.{Option, none, some}
+use Rattle.std.specs.Prelude.{Bool, true, false, cond, ◌&&◌, List, [], ◌∷◌, ℕ, suc, ◌+◌, ◌*◌, ◌-◌, eqb, leb, Option, Some, None}
 use Prim.Native.String.{String, [] as ε, ◌∷◌ as ◌then◌}
 use Prim.Native.Char.{code}
 
@@ -59,14 +58,14 @@ is_digit d = leb 48 d && leb d 57
 
 -- the value of digits after others that are worth v
 unfoldable pub value : ℕ → List ℕ → Option ℕ
-value v [] = some v
-value v (d ∷ l) = cond (is_digit d) (value (v * 10 + (d - 48)) l) none
+value v [] = Some v
+value v (d ∷ l) = cond (is_digit d) (value (v * 10 + (d - 48)) l) None
 
 abbrev pub at_most : ℕ → Option ℕ → Option ℕ
-at_most max none = none
-at_most max (some v) = cond (leb v max) (some v) none
+at_most max None = None
+at_most max (Some v) = cond (leb v max) (Some v) None
 
 -- a number of one digit or more, at most max
 unfoldable pub number : ℕ → List ℕ → Option ℕ
-number max [] = none
+number max [] = None
 number max (d ∷ l) = at_most max (value 0 (d ∷ l))

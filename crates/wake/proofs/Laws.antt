@@ -1,9 +1,7 @@
 -- What each `return` of a call on the wake queue has to show, said of values alone.
-use Rattle.std.proofs.Common.{◌≡◌, ℕ, ◌+◌, ◌%◌, ◌<◌, true, false, eqb, ltb, ◌⊎◌, [], ◌∷◌, ◌++◌, length, get_or, set, sym, refl, ap, ◌∙◌, ap₂, inl, inr, add-one, arith, get_or-set_other, get_or-set_same, ltb-false, ltb-true, le-ltb, lt-ltb, eq-eqb, ne_eqb}
-use mathlib.Core.Option.{some, none}
+use Rattle.std.specs.Prelude.{Some, None}
+use Rattle.std.proofs.Common.{◌≡◌, ℕ, ◌+◌, ◌%◌, ◌<◌, true, false, eqb, [], ◌∷◌, ◌++◌, length, get_or, set, sym, refl, ap, ◌∙◌, ap₂, add-one, arith, get_or-set_other, get_or-set_same, le-ltb, lt-ltb, eq-eqb, ne_eqb}
 use native.Mathlib.Decide.{ℕ_discrete}
-use Rattle.lists.specs.Tells.{Tells}
-use Rattle.lists.proofs.Basics.{tells_by}
 use Rattle.answers.specs.Reply.{refused, done, told, number, value}
 use Rattle.answers.specs.Contract.{Makes, MakesAt, Does, Answers}
 use Rattle.answers.proofs.Returns.{answers, does_keep, does, leaves_at}
@@ -11,7 +9,7 @@ use Rattle.runqueue.specs.Ring.{placed, around}
 use Rattle.runqueue.proofs.RingLaws.{around-length, around-none, around-push, around-pop}
 use Rattle.wake.specs.declared.Ends.{Ends}
 use Rattle.wake.specs.declared.WakeQueue.{WakeQueue}
-use Rattle.wake.specs.Queue.{listed, held, view, Fit, Sound, wakes}
+use Rattle.wake.specs.Queue.{listed, held, view, Sound, wakes}
 use Rattle.wake.specs.Steps.{queue_of, fresh, DROPS, new_step, push_step, pop_of, pop_step, drops_reply, empty_reply}
 use Rattle.wake.proofs.Held.{listed_small, head-after, none-held, some-held, held-full, held-room, held_more, held_less}
 
@@ -38,28 +36,6 @@ unfolding view
 view-none q e = rw e (around-none (at q) q.ends.c 0 q.ends.tail)
 
 -- MAKING AND READING
-
--- one of the sizes, as a match on a number has it
-abbrev pub OneOf : ℕ → Type 0
-OneOf c = (c ≡ 2) ⊎ ((c ≡ 4) ⊎ ((c ≡ 8) ⊎ ((c ≡ 16) ⊎ ((c ≡ 32) ⊎ (c ≡ 64)))))
-
-pub listed_yes : (c : ℕ) → OneOf c → true ≡ listed c
-unfolding listed
-listed_yes c (inl e) = rw e
-listed_yes c (inr (inl e)) = rw e
-listed_yes c (inr (inr (inl e))) = rw e
-listed_yes c (inr (inr (inr (inl e)))) = rw e
-listed_yes c (inr (inr (inr (inr (inl e))))) = rw e
-listed_yes c (inr (inr (inr (inr (inr e))))) = rw e
-
-pub listed_no : (c : ℕ) → (OneOf c → ⊥) → false ≡ listed c
-unfolding listed
-listed_no c f =
-    rw (ne_eqb c 2 (λ e. f (inl e)), ne_eqb c 4 (λ e. f (inr (inl e))), ne_eqb c 8 (λ e. f (inr (inr (inl e)))), ne_eqb c 16 (λ e. f (inr (inr (inr (inl e))))), ne_eqb c 32 (λ e. f (inr (inr (inr (inr (inl e)))))), ne_eqb c 64 (λ e. f (inr (inr (inr (inr (inr e)))))))
-
-pub fit_last : (c head tail : ℕ) → listed c ≡ true → head < c → Tells (ltb tail c) (Fit c head tail)
-fit_last c head tail a b =
-    tells_by (ltb tail c) (λ e. record { size = a; headed = b; tailed = ltb-true tail c e }) (λ e f. let g = ltb-false tail c e in omega arith)
 
 fresh_is : (c : ℕ) (q : WakeQueue) → listed c ≡ true → q.ends ≡ record { c = c; head = 0; tail = 0; drops = 0 } → (view q ≡ fresh c) × Sound q
 fresh_is c q l e =
@@ -138,14 +114,14 @@ module _ (q : WakeQueue) (s : Sound q) (t x : ℕ) (next : x ≡ placed q.ends.c
       does wakes q (put q i t x) _ _ (λ r. r) (rw yes) (rw yes (ap (λ l. queue_of q.ends.c l q.ends.drops) tokens)) (record { size = s.size; headed = below; tailed = s.tailed })
 
 module _ (q : WakeQueue) (s : Sound q) where
-  pub pop-none : q.ends.tail ≡ q.ends.head → Does wakes q q (value none) (pop_step (view q))
+  pub pop-none : q.ends.tail ≡ q.ends.head → Does wakes q q (value None) (pop_step (view q))
   unfolding pop_of
   pop-none e =
       let v = view-none q (none-held q.ends.c q.ends.head q.ends.tail s.headed s.tailed (sym e)) in
       does_keep wakes q _ _ s (λ e. let z : ◌≡◌ {A = ℕ} 0 1 = cc in omega arith) (rw v)
       (ap (λ l. queue_of (view q).c l (view q).drops) v ∙ sym (ap (λ l. (pop_of (view q).c l (view q).drops).after) v))
 
-  pub pop-done : (x : ℕ) → (q.ends.tail ≡ q.ends.head → ⊥) → x ≡ placed q.ends.c (q.ends.tail + 1) → x < q.ends.c → Does wakes q (cut q x) (value (some (at q q.ends.tail))) (pop_step (view q))
+  pub pop-done : (x : ℕ) → (q.ends.tail ≡ q.ends.head → ⊥) → x ≡ placed q.ends.c (q.ends.tail + 1) → x < q.ends.c → Does wakes q (cut q x) (value (Some (at q q.ends.tail))) (pop_step (view q))
   unfolding pop_of view
   pop-done x ne next below =
       let less = held_less q.ends.c q.ends.head q.ends.tail x s.headed s.tailed next below ne in

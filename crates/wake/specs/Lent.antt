@@ -1,4 +1,4 @@
--- A wake queue whose tokens are lent, beside its ends: what a contract over references says of it.
+-- A wake queue that is lent in its parts, the ends and the tokens: what a contract over references says of it.
 use Rattle.std.specs.Prelude.{ℕ, List}
 use Rattle.std.specs.Borrow.{MutBor}
 use denote.Triple.Both.{Both}

@@ -9,7 +9,7 @@ pub record Queue : Type 0 where
   pub tokens : List ℕ
   pub drops : ℕ
 
--- Document 01, "Domain and sizes": C is 2, 4, 8, 16, 32 or 64
+-- a queue has 2, 4, 8, 16, 32 or 64 places
 unfoldable pub listed : ℕ → Bool
 listed c = c == 2 || c == 4 || c == 8 || c == 16 || c == 32 || c == 64
 
@@ -25,7 +25,7 @@ view q =
       drops = q.ends.drops;
     }
 
--- Document 01, "Wake queue": C listed, both indexes below C
+-- a queue is sound where its size is listed and both indexes are below it
 pub record Fit (c head tail : ℕ) : Type 0 where
   pub size : listed c ≡ true
   pub headed : head < c

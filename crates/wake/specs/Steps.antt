@@ -1,17 +1,15 @@
 -- What each call on the wake queue answers, and what it leaves.
-use Rattle.std.specs.Prelude.{ℕ, ◌+◌, ◌%◌, ◌^◌, true, false, cond, List, [], ◌∷◌, ◌++◌, length, ◌==◌, nat_lt}
-use Rattle.std.proofs.Math.Option.{some, none}
-use Rattle.answers.specs.Reply.{Reply, refused, done, told, number, value}
-use Rattle.answers.specs.Answers.{refusal_no}
+use Rattle.std.specs.Prelude.{ℕ, ◌+◌, ◌%◌, ◌^◌, true, false, cond, List, [], ◌∷◌, ◌++◌, length, ◌==◌, nat_lt, Option, Some, None, Result, option_map}
+use Rattle.ids.specs.declared.Token.{Token}
+use Rattle.answers.specs.Reply.{Reply, done, told, number, value}
+use Rattle.answers.specs.declared.Refusal.{Refusal}
+use Rattle.answers.specs.Answers.{reply}
 use Rattle.answers.specs.Contract.{Step, refusing}
-use Rattle.wake.specs.declared.Popped as popped
-use Rattle.wake.specs.declared.Popped.TheVariants as popped-of
 use Rattle.wake.specs.Queue.{Queue, listed}
 
-abbrev pub popped_reply : popped.Popped → Reply
-popped_reply (popped-of.Token t) = value (some t.0)
-popped_reply popped-of.Nothing = value none
-popped_reply (popped-of.Refused r) = refused (refusal_no r)
+-- a token, or none
+abbrev pub popped_reply : Result (Option Token) Refusal → Reply
+popped_reply r = reply (λ o. value (option_map (λ (t : Token). t.0) o)) r
 
 abbrev pub queue_of : ℕ → List ℕ → ℕ → Queue
 queue_of c l d = record { c = c; tokens = l; drops = d }
@@ -36,8 +34,8 @@ push_step q t =
 
 -- the oldest, of what is held
 unfoldable pub pop_of : ℕ → List ℕ → ℕ → Step Queue
-pop_of c [] d = record { reply = value none; after = queue_of c [] d }
-pop_of c (t ∷ l) d = record { reply = value (some t); after = queue_of c l d }
+pop_of c [] d = record { reply = value None; after = queue_of c [] d }
+pop_of c (t ∷ l) d = record { reply = value (Some t); after = queue_of c l d }
 
 abbrev pub pop_step : Queue → Step Queue
 pop_step q = pop_of q.c q.tokens q.drops

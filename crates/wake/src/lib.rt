@@ -10,12 +10,12 @@ ghost use Rattle.wake.specs.Queue.{listed, Fit, view, Sound, wakes};
 ghost use Rattle.wake.specs.Lent.{lent, MakesLent, DoesLent, MeetsLent, AnswersAny};
 ghost use Rattle.wake.specs.Steps.{popped_reply, new_step, push_step, pop_step, drops_reply, empty_reply};
 
-use answers::{Ack, Count, Refusal, Told};
+use answers::{Answered, Refusal};
 use ids::Token;
 
 // The queue without its tokens: its size, where the next token is written (head) and where the next is read (tail).
 #[repr(C)]
-#[derive(Clone, Copy)]
+#[derive(Clone, Copy, Debug, PartialEq, Eq, Hash)]
 pub struct Ends {
     pub c: usize,
     pub head: usize,
@@ -31,147 +31,65 @@ pub struct WakeQueue {
     pub tokens: [u32; 64],
 }
 
-// A token, or none.
-#[derive(Clone, Copy)]
-pub enum Popped {
-    Token(Token),
-    Nothing,
-    Refused(Refusal),
-}
-
-// The queue, beside what a call that made or changed it answers.
-#[derive(Clone, Copy)]
-pub struct Made {
-    pub queue: WakeQueue,
-    pub answer: Ack,
-}
-
-#[derive(Clone, Copy)]
-pub struct Pushed {
-    pub queue: WakeQueue,
-    pub answer: Told,
-}
-
-#[derive(Clone, Copy)]
-pub struct Taken {
-    pub queue: WakeQueue,
-    pub answer: Popped,
-}
-
-// The same of a call whose tokens are lent: they are changed where they lie, and the ends come back.
-#[derive(Clone, Copy)]
-pub struct LentAck {
-    pub ends: Ends,
-    pub answer: Ack,
-}
-
-#[derive(Clone, Copy)]
-pub struct LentTold {
-    pub ends: Ends,
-    pub answer: Told,
-}
-
-#[derive(Clone, Copy)]
-pub struct LentPopped {
-    pub ends: Ends,
-    pub answer: Popped,
-}
-
 // Whether a queue can have c places.
+#[tactic(auto, unfolding(crate::specs::Queue::listed))]
 fn is_listed(c: usize) -> bool
     ensures { result ≡ listed c }
 {
-    match c {
-        2 | 4 | 8 | 16 | 32 | 64 => true,
-        _ => false,
-    }
+    matches!(c, 2 | 4 | 8 | 16 | 32 | 64)
 }
 
-// The test of a queue's numbers: its tokens may be anything.
-fn is_fit(c: usize, head: usize, tail: usize) -> bool
-    ensures { Tells result (Fit c head tail) }
-{
-    if !is_listed(c) {
-        return false;
-    }
-    if c <= head {
-        return false;
-    }
-    tail < c
-}
-
-// An array that is lent as a slice tells the proof its size, which a reference to an array does not. It compiles to nothing.
-fn sized(tokens: &[u32]) {}
-
-fn new_ends(c: usize) -> Ends
-    ensures { result ≡ record { c = c; head = 0; tail = 0; drops = 0 } }
-{
-    Ends {
-        c: c,
-        head: 0,
-        tail: 0,
-        drops: 0,
+impl Ends {
+    fn empty(c: usize) -> Ends
+        ensures { result ≡ record { c = c; head = 0; tail = 0; drops = 0 } }
+    {
+        Ends {
+            c,
+            head: 0,
+            tail: 0,
+            drops: 0,
+        }
     }
 }
 
 // A queue is made where its tokens lie; beside BadSize what lay there stays.
-pub fn new_at(tokens: &mut [u32; 64], ends: Ends, c: usize) -> LentAck
-    ensures { MakesLent tokens ends result.ends (ack_reply result.answer) (new_step c) }
+pub fn new_at(tokens: &mut [u32; 64], ends: &mut Ends, c: usize) -> Result<(), Refusal>
+    ensures { MakesLent tokens ends.old ends.new (ack_reply result) (new_step c) }
 {
     if !is_listed(c) {
-        return LentAck {
-            ends: ends,
-            answer: Ack::Refused(Refusal::BadSize),
-        };
+        return Err(Refusal::BadSize);
     }
     *tokens = [0; 64];
-    LentAck {
-        ends: new_ends(c),
-        answer: Ack::Done,
-    }
+    *ends = Ends::empty(c);
+    Ok(())
 }
 
-// INNER CALLS: the tokens are lent, and the caller knows the queue to be sound
+// INNER CALLS: the queue is lent, and the caller knows it to be sound
 
-pub fn push_in(tokens: &mut [u32; 64], mut ends: Ends, token: Token) -> LentTold
-    requires { Sound (lent tokens ends) }
-    ensures { DoesLent tokens ends result.ends (told_reply result.answer) (λ q. push_step q token.0) }
+pub fn push_in(tokens: &mut [u32; 64], ends: &mut Ends, token: Token) -> Result<bool, Refusal>
+    requires { Sound (lent tokens ends.old) }
+    ensures { DoesLent tokens ends.old ends.new (told_reply result) (λ q. push_step q token.0) }
 {
-    let head = ends.head;
-    let next = runqueue::place(ends.c, head + 1);
+    let next = runqueue::place(ends.c, ends.head + 1);
     if next == ends.tail {
-        ends.drops = std::num::wrapping_add_u32(ends.drops, 1);
-        return LentTold {
-            ends: ends,
-            answer: Told::Is(false),
-        };
+        ends.drops = ends.drops.wrapping_add(1);
+        return Ok(false);
     }
-    sized(tokens);
-    tokens[head] = token.0;
+    tokens[ends.head] = token.0;
     ends.head = next;
-    LentTold {
-        ends: ends,
-        answer: Told::Is(true),
-    }
+    Ok(true)
 }
 
-pub fn pop_in(tokens: &mut [u32; 64], mut ends: Ends) -> LentPopped
-    requires { Sound (lent tokens ends) }
-    ensures { DoesLent tokens ends result.ends (popped_reply result.answer) pop_step }
+pub fn pop_in(tokens: &mut [u32; 64], ends: &mut Ends) -> Result<Option<Token>, Refusal>
+    requires { Sound (lent tokens ends.old) }
+    ensures { DoesLent tokens ends.old ends.new (popped_reply result) pop_step }
 {
-    let tail = ends.tail;
-    if tail == ends.head {
-        return LentPopped {
-            ends: ends,
-            answer: Popped::Nothing,
-        };
+    if ends.tail == ends.head {
+        return Ok(None);
     }
-    let token = Token(tokens[tail]);
-    ends.tail = runqueue::place(ends.c, tail + 1);
-    LentPopped {
-        ends: ends,
-        answer: Popped::Token(token),
-    }
+    let token = Token(tokens[ends.tail]);
+    ends.tail = runqueue::place(ends.c, ends.tail + 1);
+    Ok(Some(token))
 }
 
 // CALLS OF THE PRODUCT ON LENT TOKENS: the test, then 1 or the inner call. Some ask for the ends alone, whatever the tokens are.
@@ -179,65 +97,64 @@ pub fn pop_in(tokens: &mut [u32; 64], mut ends: Ends) -> LentPopped
 pub fn sound_at(ends: Ends) -> bool
     ensures { Tells result (Fit ends.c ends.head ends.tail) }
 {
-    is_fit(ends.c, ends.head, ends.tail)
+    is_listed(ends.c) && ends.head < ends.c && ends.tail < ends.c
 }
 
-pub fn drops_at(ends: Ends) -> Count
+pub fn drops_at(ends: Ends) -> Result<u64, Refusal>
     ensures { AnswersAny ends (count_reply result) drops_reply }
 {
-    if !sound_at(ends) {
-        return Count::Refused(Refusal::BadTable);
+    if sound_at(ends) {
+        Ok(ends.drops as u64)
+    } else {
+        Err(Refusal::BadTable)
     }
-    Count::Is(ends.drops as u64)
 }
 
-pub fn is_empty_at(ends: Ends) -> Told
+pub fn is_empty_at(ends: Ends) -> Result<bool, Refusal>
     ensures { AnswersAny ends (told_reply result) empty_reply }
 {
-    if !sound_at(ends) {
-        return Told::Refused(Refusal::BadTable);
+    if sound_at(ends) {
+        Ok(ends.head == ends.tail)
+    } else {
+        Err(Refusal::BadTable)
     }
-    Told::Is(ends.head == ends.tail)
 }
 
-pub fn push_at(tokens: &mut [u32; 64], ends: Ends, token: Token) -> LentTold
-    ensures { MeetsLent tokens ends result.ends (told_reply result.answer) (λ q. push_step q token.0) }
+pub fn push_at(tokens: &mut [u32; 64], ends: &mut Ends, token: Token) -> Result<bool, Refusal>
+    ensures { MeetsLent tokens ends.old ends.new (told_reply result) (λ q. push_step q token.0) }
 {
-    if !sound_at(ends) {
-        return LentTold {
-            ends: ends,
-            answer: Told::Refused(Refusal::BadTable),
-        };
+    if sound_at(*ends) {
+        push_in(tokens, ends, token)
+    } else {
+        Err(Refusal::BadTable)
     }
-    push_in(tokens, ends, token)
 }
 
-pub fn pop_at(tokens: &mut [u32; 64], ends: Ends) -> LentPopped
-    ensures { MeetsLent tokens ends result.ends (popped_reply result.answer) pop_step }
+pub fn pop_at(tokens: &mut [u32; 64], ends: &mut Ends) -> Result<Option<Token>, Refusal>
+    ensures { MeetsLent tokens ends.old ends.new (popped_reply result) pop_step }
 {
-    if !sound_at(ends) {
-        return LentPopped {
-            ends: ends,
-            answer: Popped::Refused(Refusal::BadTable),
-        };
+    if sound_at(*ends) {
+        pop_in(tokens, ends)
+    } else {
+        Err(Refusal::BadTable)
     }
-    pop_in(tokens, ends)
 }
 
 impl WakeQueue {
     // An empty queue; beside BadSize an empty queue of two places.
-    pub fn new(c: usize) -> Made
-        ensures { Makes wakes result.queue (ack_reply result.answer) (new_step c) }
+    pub fn new(c: usize) -> Answered<WakeQueue, ()>
+        ensures { Makes wakes result.table (ack_reply result.answer) (new_step c) }
     {
-        if !is_listed(c) {
-            return Made {
-                queue: WakeQueue::empty(2),
-                answer: Ack::Refused(Refusal::BadSize),
-            };
-        }
-        Made {
-            queue: WakeQueue::empty(c),
-            answer: Ack::Done,
+        if is_listed(c) {
+            Answered {
+                table: WakeQueue::empty(c),
+                answer: Ok(()),
+            }
+        } else {
+            Answered {
+                table: WakeQueue::empty(2),
+                answer: Err(Refusal::BadSize),
+            }
         }
     }
 
@@ -245,7 +162,7 @@ impl WakeQueue {
         ensures { result.ends ≡ record { c = c; head = 0; tail = 0; drops = 0 } }
     {
         WakeQueue {
-            ends: new_ends(c),
+            ends: Ends::empty(c),
             tokens: [0; 64],
         }
     }
@@ -257,49 +174,37 @@ impl WakeQueue {
     }
 
     // How many pushes found the queue full.
-    pub fn drops(self) -> Count
+    pub fn drops(self) -> Result<u64, Refusal>
         ensures { Answers wakes self (count_reply result) (drops_reply (view self)) }
     {
         drops_at(self.ends)
     }
 
-    pub fn is_empty(self) -> Told
+    pub fn is_empty(self) -> Result<bool, Refusal>
         ensures { Answers wakes self (told_reply result) (empty_reply (view self)) }
     {
         is_empty_at(self.ends)
     }
 
     // Puts a token behind the others; a queue that is full drops it and counts the drop.
-    pub fn push(self, token: Token) -> Pushed
-        ensures { Meets wakes self result.queue (told_reply result.answer) (push_step (view self) token.0) }
+    pub fn push(mut self, token: Token) -> Answered<WakeQueue, bool>
+        ensures { Meets wakes self result.table (told_reply result.answer) (push_step (view self) token.0) }
     {
-        let mut tokens = self.tokens;
-        let done = push_at(&mut tokens, self.ends, token);
-        let ends = done.ends;
-        let answer = done.answer;
-        Pushed {
-            queue: WakeQueue {
-                ends: ends,
-                tokens: tokens,
-            },
-            answer: answer,
+        let answer = push_at(&mut self.tokens, &mut self.ends, token);
+        Answered {
+            table: self,
+            answer,
         }
     }
 
     // Takes the oldest token.
-    pub fn pop(self) -> Taken
-        ensures { Meets wakes self result.queue (popped_reply result.answer) (pop_step (view self)) }
+    pub fn pop(mut self) -> Answered<WakeQueue, Option<Token>>
+        ensures { Meets wakes self result.table (popped_reply result.answer) (pop_step (view self)) }
     {
-        let mut tokens = self.tokens;
-        let done = pop_at(&mut tokens, self.ends);
-        let ends = done.ends;
-        let answer = done.answer;
-        Taken {
-            queue: WakeQueue {
-                ends: ends,
-                tokens: tokens,
-            },
-            answer: answer,
+        let answer = pop_at(&mut self.tokens, &mut self.ends);
+        Answered {
+            table: self,
+            answer,
         }
     }
 }

@@ -4,8 +4,7 @@ use Rattle.checks.proofs.LoopLaws.{summed_none, summed_more}
 use Rattle.checks.proofs.slots_fit.Goals as goal
 
 pub loop-i-init : goal.loop-i-init
-loop-i-init c = (omega arith, summed_none _ _ _ _)
+loop-i-init c = summed_none _ _ _ _
 
 pub loop-i-preserved : goal.loop-i-preserved
-loop-i-preserved c = let i = c.loop-i.invariant.1 in
-    (omega arith, summed_more _ _ _ _ _ _ _ i c.misfits.ensures c.flag-bad.ensures.0 c.flag-used.ensures.0 (omega (arith, c.flag-used.ensures.1)))
+loop-i-preserved c = summed_more _ _ _ _ _ _ _ c.loop-i.invariant c.misfits.ensures c.flag-bad.ensures.0 c.flag-used.ensures.0 (omega (arith, c.flag-used.ensures.1))

@@ -1,5 +1,5 @@
 -- Too long, or of one word, two, three or more.
-use mathlib.Core.Path.{sym, ◌∙◌}
+use Rattle.std.proofs.Common.{sym, ◌∙◌}
 use Rattle.lines.proofs.Laws.{too_long, one_by, two_by, three_by, more_by}
 use Rattle.lines.proofs.read.Goals as goal
 

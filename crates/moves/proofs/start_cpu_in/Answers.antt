@@ -1,25 +1,34 @@
-use mathlib.Core.Path.{refl, sym, ◌∙◌}
+-- Not started, started on this CPU already, no free slot; else a claim of the lowest.
+use Rattle.std.proofs.Common.{arith, refl, sym, ◌∙◌}
+use Rattle.std.proofs.lemmas.Bool.{not-true, not-false}
 use Rattle.steps.proofs.Common.{not_started}
 use Rattle.steps.proofs.Starts.{cpu_again, cpu-none, cpu-done}
 use Rattle.model.specs.Steps.{start_cpu_step}
+use Rattle.memory.proofs.Lent.{there}
 use Rattle.moves.proofs.start_cpu_in.Goals as goal
 
-pub returns-then-states-eq-EMPTY : goal.returns-then-states-eq-EMPTY
+pub returns-then-t-eq-EMPTY : goal.returns-then-t-eq-EMPTY
 unfolding start_cpu_step
-returns-then-states-eq-EMPTY c = not_started _ c.requires.sound _ c.if-states-eq-EMPTY.true
+returns-then-t-eq-EMPTY c = (there c.args.t.now, not_started _ c.requires.sound _ c.if-t-eq-EMPTY.true)
 
-pub returns-then-not-same : goal.returns-then-not-same
-returns-then-not-same c =
-    cpu_again _ c.args.cpu c.requires.sound c.requires.cpu_nonzero c.requires.cpu_bound c.if-states-eq-EMPTY.false _ refl
-    (sym c.same.ensures ∙ c.if-not-same.true)
+pub returns-then-ne : goal.returns-then-ne
+returns-then-ne c =
+    let w = c.requires in (
+      there c.args.t.now,
+      cpu_again _ c.args.cpu w.sound w.cpu_nonzero w.cpu_bound c.if-t-eq-EMPTY.false _ refl (not-true _ (sym c.ne.ensures ∙ c.if-ne.true)),
+    )
 
-pub returns-then-n-i : goal.returns-then-n-i
-returns-then-n-i c =
-    cpu-none _ c.args.cpu c.requires.sound c.requires.cpu_nonzero c.requires.cpu_bound c.if-states-eq-EMPTY.false _ refl
-    (sym c.same.ensures ∙ c.if-not-same.false) _ c.free_slot-i.ensures.0 c.if-n-i.true
+pub returns-in_default : goal.returns-in_default
+returns-in_default c =
+    let w = c.requires in (
+      there c.args.t.now,
+      cpu-none _ c.args.cpu w.sound w.cpu_nonzero w.cpu_bound c.if-t-eq-EMPTY.false _ refl (not-false _ (sym c.ne.ensures ∙ c.if-ne.false)) _ c.in_default.ensures.lowest (omega arith),
+    )
 
 pub returns : goal.returns
 returns c =
-    let e = c.claim-r.ensures in cpu-done _ c.args.cpu c.requires.sound c.requires.cpu_nonzero c.requires.cpu_bound
-    c.if-states-eq-EMPTY.false _ refl (sym c.same.ensures ∙ c.if-not-same.false) _ c.free_slot-i.ensures.0 _ _ c.if-n-i.false e.0
-    e.1 e.2
+    let w = c.requires in
+    let e = c.claim.ensures in (
+      e.0,
+      cpu-done _ c.args.cpu w.sound w.cpu_nonzero w.cpu_bound c.if-t-eq-EMPTY.false _ refl (not-false _ (sym c.ne.ensures ∙ c.if-ne.false)) _ c.in-Some.ensures.lowest _ _ c.in-Some.ensures.below e.1 e.2 e.3,
+    )

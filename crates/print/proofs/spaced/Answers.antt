@@ -1,8 +1,5 @@
--- One store, then the id.
-use native.Mathlib.Omega.{arith}
-use Rattle.text.specs.Text.{SPACE}
-use Rattle.text.proofs.PrintLaws.{then, stored}
+use Rattle.text.proofs.PrintLaws.{then}
 use Rattle.print.proofs.spaced.Goals as goal
 
 pub returns : goal.returns
-returns c = then (stored _ _ SPACE (omega arith)) c.id.ensures
+returns c = then c.text-e.ensures c.id.ensures

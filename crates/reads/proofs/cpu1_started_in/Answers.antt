@@ -3,4 +3,4 @@ use Rattle.reads.proofs.Laws.{started_is}
 use Rattle.reads.proofs.cpu1_started_in.Goals as goal
 
 pub returns : goal.returns
-returns c = rw c.same.ensures (started_is _ c.requires)
+returns c = rw c.ne.ensures (started_is _ c.requires)

@@ -1,5 +1,5 @@
 -- 5 above the last CPU.
-use native.Mathlib.Omega.{arith}
+use Rattle.std.proofs.Common.{arith}
 use Rattle.reads.proofs.Laws.{current_is}
 use Rattle.reads.proofs.current_on_in.Goals as goal
 

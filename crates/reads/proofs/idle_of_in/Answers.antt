@@ -1,5 +1,5 @@
 -- 5 above the last CPU.
-use native.Mathlib.Omega.{arith}
+use Rattle.std.proofs.Common.{arith}
 use Rattle.reads.proofs.Laws.{idle_is}
 use Rattle.reads.proofs.idle_of_in.Goals as goal
 

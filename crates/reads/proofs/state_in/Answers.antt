@@ -1,5 +1,5 @@
 -- Of an id that is known.
-use mathlib.Core.Path.{sym, ◌∙◌}
+use Rattle.std.proofs.Common.{sym, ◌∙◌}
 use Rattle.model.specs.Model.{state_of}
 use Rattle.memory.specs.View.{view}
 use Rattle.reads.proofs.Laws.{near, unknown, code_known, state_is}

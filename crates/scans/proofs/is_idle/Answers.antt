@@ -1,17 +1,17 @@
-use native.Mathlib.Omega.{arith}
-use Rattle.scans.proofs.Laws.{none-start, none_more, idle_hit, idle-none}
+-- One of the idles is the one, or none of them.
+use Rattle.std.proofs.Common.{arith}
 use mathlib.Core.Path.{sym, ◌∙◌}
-use Rattle.std.proofs.Common.{rules}
+use Rattle.scans.proofs.Laws.{none-start, none_more, idle_hit, idle-none}
 use Rattle.scans.proofs.is_idle.Goals as goal
 
-pub loop-c-init : goal.loop-c-init
-loop-c-init c = (omega arith, none-start _ _)
+pub loop-i-init : goal.loop-i-init
+loop-i-init c = none-start _ _
 
-pub returns-then-same : goal.returns-then-same
-returns-then-same c = idle_hit _ _ _ (search rules) (sym c.same.ensures ∙ c.if-same.true)
+pub returns-then-eq : goal.returns-then-eq
+returns-then-eq c = idle_hit _ _ _ (omega arith) (sym c.eq.ensures ∙ c.if-eq.true)
 
-pub loop-c-preserved : goal.loop-c-preserved
-loop-c-preserved c = (omega arith, none_more _ _ _ c.loop-c.invariant.1 (sym c.same.ensures ∙ c.if-same.false))
+pub loop-i-preserved : goal.loop-i-preserved
+loop-i-preserved c = none_more _ _ _ c.loop-i.invariant (sym c.eq.ensures ∙ c.if-eq.false)
 
 pub returns : goal.returns
-returns c = idle-none _ _ _ (search rules) c.loop-c.invariant.1
+returns c = idle-none _ _ _ (omega arith) c.loop-i.invariant

@@ -1,12 +1,6 @@
-use mathlib.Core.Bool.{not}
-use lib.Dec.{eqb}
-use Rattle.model.specs.Model.{EMPTY}
-use Rattle.scans.proofs.Laws.{Counted}
-use Rattle.std.proofs.Common.{◌-◌, ◌≤◌}
+-- The slots before that are not Empty are counted.
+use Rattle.std.proofs.Common.{◌≡◌, ◌≤◌, nat_eq, count_by, take, not}
 use Rattle.scans.proofs.occupied.Given as goal
 
 abbrev pub invariant-loop-s : goal.invariant-loop-s
-invariant-loop-s l = (l.s ≤ l.n) × Counted (λ i. not (eqb i EMPTY)) l.states l.n l.s l.k
-
-abbrev pub decreases-loop-s : goal.decreases-loop-s
-decreases-loop-s l = l.n - l.s
+invariant-loop-s l = (l.count ≡ count_by (λ s. not (nat_eq s 0)) (take l.s-index l.s-items)) × (l.count ≤ l.s-index)

@@ -1,19 +1,11 @@
--- Each kind of line keeps what the loop keeps, by its law (Laws).
-use Rattle.memory.specs.Lent as tasks
-use Rattle.irqwait.specs.Lent as waits
-use Rattle.wake.specs.Lent as wakes
-use Rattle.output.proofs.Arms.{here}
-use Rattle.script.proofs.Laws.{Going}
+-- From the place where the loop began, with what the buffer has.
 use Rattle.std.proofs.Common.{length, ◌-◌}
+use Rattle.place.specs.Here.{tables_of}
+use Rattle.script.proofs.Laws.{Going}
 use Rattle.script.proofs.chunk.Given as goal
 
-abbrev pub invariant-loop-at : goal.invariant-loop-at
-invariant-loop-at l =
-    Going l.input
-    (here (tasks.whole l.initial.states l.initial.epochs l.initial.homes l.initial.marks l.initial.ring_slots l.initial.ring_epochs l.initial.small) (waits.whole l.initial.pending l.initial.pending_slots l.initial.pending_epochs l.initial.waiters) l.initial.deadlines (wakes.whole l.initial.tokens l.initial.ends))
-    l.initial.number l.initial.at (length l.initial.out) l.out
-    (here (tasks.whole l.states l.epochs l.homes l.marks l.ring_slots l.ring_epochs l.small) (waits.whole l.pending l.pending_slots l.pending_epochs l.waiters) l.deadlines (wakes.whole l.tokens l.ends))
-    l.number l.at l.used
+abbrev pub invariant-loop-here : goal.invariant-loop-here
+invariant-loop-here l = Going l.input (tables_of l.initial.here) l.initial.here.number l.initial.here.at (length l.initial.out) l.out (tables_of l.here) l.here.number l.here.at l.here.used
 
-abbrev pub decreases-loop-at : goal.decreases-loop-at
-decreases-loop-at l = length l.input - l.at
+abbrev pub decreases-loop-here : goal.decreases-loop-here
+decreases-loop-here l = length l.input - l.here.at

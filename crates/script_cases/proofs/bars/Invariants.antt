@@ -1,9 +1,6 @@
--- The loop goes through the text.
-use Rattle.std.proofs.Common.{length, ◌-◌, ◌≤◌}
+-- What is left gets shorter.
+use Rattle.std.proofs.Common.{length}
 use Rattle.script_cases.proofs.bars.Given as goal
 
-abbrev pub invariant-loop-at : goal.invariant-loop-at
-invariant-loop-at g l = l.at ≤ length l.text
-
-abbrev pub decreases-loop-at : goal.decreases-loop-at
-decreases-loop-at g l = length l.text - l.at
+abbrev pub decreases-loop-rest : goal.decreases-loop-rest
+decreases-loop-rest g l = length l.rest

@@ -3,8 +3,8 @@ use Rattle.place.proofs.Between.{Between}
 use Rattle.std.proofs.Common.{length, ◌-◌}
 use Rattle.script_cases.proofs.line.Given as goal
 
-abbrev pub invariant-loop-at : goal.invariant-loop-at
-invariant-loop-at g l = Between 256 l.input l.out l.here l.at
+abbrev pub invariant-loop-here : goal.invariant-loop-here
+invariant-loop-here g l = Between 256 l.input l.out l.here
 
-abbrev pub decreases-loop-at : goal.decreases-loop-at
-decreases-loop-at g l = length l.input - l.at
+abbrev pub decreases-loop-here : goal.decreases-loop-here
+decreases-loop-here g l = length l.input - l.here.at

@@ -8,4 +8,4 @@ pub returns-then-not-is_listed : goal.returns-then-not-is_listed
 returns-then-not-is_listed c = new-left _ _ (sym c.if-not-is_listed.ensures)
 
 pub returns : goal.returns
-returns c = makes-at _ _ _ _ (new-done _ _ (sym c.if-not-is_listed.ensures) c.new_ends.ensures)
+returns c = makes-at _ _ _ _ (new-done _ _ (sym c.if-not-is_listed.ensures) c.empty.ensures)

@@ -5,14 +5,13 @@ use Rattle.wake.proofs.Laws.{push-full, push-done}
 use Rattle.wake.proofs.push_in.Goals as goal
 
 pub returns-then-next-ends : goal.returns-then-next-ends
-returns-then-next-ends c =
-    push-full _ c.requires _ _ c.place-next.ensures.0 c.place-next.ensures.1 _ c.if-next-ends.true c.wrapping_add_u32.ensures.value
+returns-then-next-ends c = push-full _ c.requires _ _ c.place-next.ensures.0 c.place-next.ensures.1 _ c.if-next-ends.true (search rules)
 
-pub offset_bounds-tokens-head : goal.offset_bounds-tokens-head
-offset_bounds-tokens-head c = let s = listed_small _ c.requires.size in omega arith
+pub offset_bounds-tokens-ends : goal.offset_bounds-tokens-ends
+offset_bounds-tokens-ends c = let s = listed_small _ c.requires.size in omega arith
 
-pub bounds-tokens-head : goal.bounds-tokens-head
-bounds-tokens-head c = let s = listed_small _ c.requires.size in omega arith
+pub bounds-tokens-ends : goal.bounds-tokens-ends
+bounds-tokens-ends c = let s = listed_small _ c.requires.size in omega arith
 
 pub returns : goal.returns
 returns c = push-done _ c.requires _ _ c.place-next.ensures.0 c.place-next.ensures.1 _ (search rules) c.if-next-ends.false refl

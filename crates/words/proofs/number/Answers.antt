@@ -1,31 +1,28 @@
--- The reading digit by digit: the i bytes passed are worth v, which is at most max.
-use Rattle.std.proofs.Common.{arith}
-use Rattle.text.proofs.ReadLaws.{number-none, number-start, number-low, number-high, number_big, number_more, number-done}
+-- The reading digit by digit: the bytes passed are worth v, which is at most max.
+use Rattle.std.proofs.Common.{sym, arith, rules}
+use Rattle.std.proofs.lemmas.Bool.Decides.{nat_tests}
+use Rattle.text.proofs.ReadLaws.{number-none, number-start, number_stop, number_big, number_more, number-done}
 use Rattle.words.proofs.number.Goals as goal
+use Rattle.words.proofs.number.Goals.{then-max-v-via-then-max-v, then-max-v-via-else-max-v+then-max-v-2}
 
-pub returns-then-w-eq0 : goal.returns-then-w-eq0
-returns-then-w-eq0 c = number-none _ _ c.if-w-eq0.true
+pub returns-then-is_empty : goal.returns-then-is_empty
+returns-then-is_empty c = number-none _ _ (search rules)
 
-pub loop-i-init : goal.loop-i-init
-loop-i-init c = (omega arith, omega arith, number-start _ _ (omega arith))
+pub loop-d-init : goal.loop-d-init
+loop-d-init c = (omega arith, number-start _ _ (grind (arith, nat_tests)))
 
-pub returns-then-d-lt48 : goal.returns-then-d-lt48
-returns-then-d-lt48 c = number-low _ _ _ _ c.loop-i.invariant.2 c.loop-i-test.true c.if-d-lt48.true
-
-pub returns-then-d-gt57 : goal.returns-then-d-gt57
-returns-then-d-gt57 c = number-high _ _ _ _ c.loop-i.invariant.2 c.loop-i-test.true c.if-d-lt48.false c.if-d-gt57.true
+pub returns-then-not-is_ascii_digit : goal.returns-then-not-is_ascii_digit
+returns-then-not-is_ascii_digit c =
+    number_stop _ _ _ _ c.loop-d.invariant.1 c.loop-d-test.true (sym c.if-not-is_ascii_digit.ensures.value)
 
 pub returns-then-max-v : goal.returns-then-max-v
 returns-then-max-v c =
-    number_big _ _ _ _ c.loop-i.invariant.2 c.loop-i-test.true c.if-d-lt48.false c.if-d-gt57.false (omega arith)
+    number_big _ _ _ _ c.loop-d.invariant.1 c.loop-d-test.true (sym c.if-not-is_ascii_digit.ensures.value) _ c.from-x.ensures
+    (elim c.then-max-v.branch [ then-max-v-via-then-max-v w ↦ omega arith | then-max-v-via-else-max-v+then-max-v-2 w ↦ omega arith ])
 
-pub returns-then-max-t : goal.returns-then-max-t
-returns-then-max-t c =
-    number_big _ _ _ _ c.loop-i.invariant.2 c.loop-i-test.true c.if-d-lt48.false c.if-d-gt57.false (omega arith)
-
-pub loop-i-preserved : goal.loop-i-preserved
-loop-i-preserved c =
-    (omega arith, omega arith, number_more _ _ _ _ c.loop-i.invariant.2 c.loop-i-test.true c.if-d-lt48.false c.if-d-gt57.false _ c.wide-x.ensures)
+pub loop-d-preserved : goal.loop-d-preserved
+loop-d-preserved c =
+    (omega arith, number_more _ _ _ _ c.loop-d.invariant.1 c.loop-d-test.true (sym c.if-not-is_ascii_digit.ensures.value) _ c.from-x.ensures)
 
 pub returns : goal.returns
-returns c = number-done _ _ _ _ c.loop-i.invariant.2 c.loop-i-test.false c.loop-i.invariant.1
+returns c = number-done _ _ _ _ c.loop-d.invariant.1 c.loop-d-test.false c.loop-d.invariant.0

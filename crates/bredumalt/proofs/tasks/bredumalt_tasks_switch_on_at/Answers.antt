@@ -3,5 +3,5 @@ use Rattle.bredumalt.proofs.Laws.{unnamed}
 use Rattle.memory.specs.View.{table}
 use Rattle.bredumalt.proofs.tasks.bredumalt_tasks_switch_on_at.Goals as goal
 
-pub returns-in-Nothing : goal.returns-in-Nothing
-returns-in-Nothing c = unnamed table _ _ _ _ (rw c.in-Nothing.is at c.kind_of-asked.ensures) c.refusing.ensures
+pub returns-in_default : goal.returns-in_default
+returns-in_default c = unnamed table _ _ _ _ (rw c.in_default.is at c.kind_of.ensures) c.refusing.ensures

@@ -1,10 +1,7 @@
--- The test before the loop says that the table is sound, and every call hands back a sound one.
+-- The test before the loop says that the table is sound, and every call leaves it so, where it lies.
+use Rattle.memory.specs.Lent.{lent, Stays}
 use Rattle.memory.specs.View.{Sound}
-use Rattle.memory.specs.Lent.{whole}
 use Rattle.repeats.proofs.known.bredumalt_known_admit.Given as goal
 
-abbrev pub invariant-loop-left : goal.invariant-loop-left
-invariant-loop-left l = Sound (whole l.states l.epochs l.homes l.marks l.ring_slots l.ring_epochs l.small)
-
-abbrev pub decreases-loop-left : goal.decreases-loop-left
-decreases-loop-left l = l.left
+abbrev pub invariant-loop : goal.invariant-loop
+invariant-loop l = Stays l.initial.t l.t × Sound (lent l.t)

@@ -1,10 +1,7 @@
--- The test before the loop says that the table is sound, and every call hands back a sound one.
+-- The test before the loop says that the table is sound, and every call leaves it so.
 use Rattle.parktime.specs.Deadlines.{Sound}
 use Rattle.std.proofs.Common.{◌≡◌, length}
 use Rattle.repeats.proofs.known.bredumalt_known_poll.Given as goal
 
-abbrev pub invariant-loop-left : goal.invariant-loop-left
-invariant-loop-left l = Sound l.d × (length l.out ≡ 16)
-
-abbrev pub decreases-loop-left : goal.decreases-loop-left
-decreases-loop-left l = l.left
+abbrev pub invariant-loop : goal.invariant-loop
+invariant-loop l = Sound l.d × (length l.out ≡ 16)

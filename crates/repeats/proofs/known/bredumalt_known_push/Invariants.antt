@@ -1,10 +1,6 @@
--- The test before the loop says that the table is sound, and every call hands back a sound one.
+-- The test before the loop says that the table is sound, and every call leaves it so.
 use Rattle.wake.specs.Queue.{Sound}
-use Rattle.wake.specs.Lent.{whole}
 use Rattle.repeats.proofs.known.bredumalt_known_push.Given as goal
 
-abbrev pub invariant-loop-left : goal.invariant-loop-left
-invariant-loop-left l = Sound (whole l.tokens l.ends)
-
-abbrev pub decreases-loop-left : goal.decreases-loop-left
-decreases-loop-left l = l.left
+abbrev pub invariant-loop : goal.invariant-loop
+invariant-loop l = Sound l.q

@@ -1,8 +1,0 @@
--- The calls ask for nothing, so the loop has only to end.
-use Rattle.repeats.proofs.checked.bredumalt_checked_admit.Given as goal
-
-abbrev pub invariant-loop-left : goal.invariant-loop-left
-invariant-loop-left l = Unit {0}
-
-abbrev pub decreases-loop-left : goal.decreases-loop-left
-decreases-loop-left l = l.left
