@@ -139,21 +139,27 @@ fn line_of<const N: usize>(name: &str, script: &str) -> Line {
     l
 }
 
-fn scripts() -> Vec<Line> {
-    let all = calls(TABLE, "line");
-    assert!(all.len() > 20, "the scripts of the program are not where this program looks for them");
-    all.iter()
-        .map(|(_, args)| {
-            let (name, script) = (bytes(&args[0]), bytes(&args[2]));
-            for_size!(args[1].parse().unwrap(), N => line_of::<N>(name, script))
-        })
-        .collect()
+/// The rows of a table of scripts: a name, how many slots, the script.
+fn rows(source: &str, table: &str) -> Vec<(String, usize, String)> {
+    let from = &source[source.find(&format!("const {table}:")).expect("a table of scripts")..];
+    let rows: Vec<&str> = from[..from.find("\n];").unwrap()].lines().filter(|l| !l.trim_start().starts_with("//")).collect();
+    let rows = rows.join(" ");
+    let parts: Vec<&str> = rows.split('"').skip(1).collect();
+    let slots = |between: &str| between.trim_matches(|c: char| !c.is_ascii_digit()).parse().unwrap();
+    parts.chunks(4).map(|row| (row[0].into(), slots(row[1]), row[2].into())).collect()
 }
 
-/// The n-th script that a function of the program runs by itself.
+fn scripts() -> Vec<Line> {
+    let mut all = rows(TABLE, "RULES");
+    all.extend(rows(TABLE, "REFUSALS"));
+    assert!(all.len() > 20, "the scripts of the program are not where this program looks for them");
+    all.iter().map(|(name, n, script)| for_size!(*n, N => line_of::<N>(name, script))).collect()
+}
+
+/// The n-th script that a function of the program runs by itself, behind the name of its line.
 fn own_script(source: &str, function: &str, n: usize) -> String {
     let from = source.find(&format!("fn {function}(")).unwrap();
-    source[from..].split("b\"").nth(n + 2).unwrap().split('"').next().unwrap().into()
+    source[from..].split('"').nth(2 * n + 3).unwrap().into()
 }
 
 /// Beside 2 we hand back a table of one slot.
@@ -211,28 +217,40 @@ fn busy() -> Plain {
     t
 }
 
-fn set(t: &Plain, what: u8, at: usize, v: u8) -> Plain {
+/// A table after a store that the program makes: `t.small.heads[0] = 8`, its spaces taken away.
+fn set(t: &Plain, store: &str) -> Plain {
     let mut u = t.clone();
-    match what {
-        b'n' => u.n = v as usize,
-        b'p' => u.parked = v,
-        b's' => u.parked_id = (at as u16, v as u16),
-        b'k' => u.peak = v as u32,
-        b'o' => u.overwrites = v as u32,
-        b'b' => u.block_events = v as u32,
-        b'h' => u.heads[at] = v as usize,
-        b'l' => u.lens[at] = v as usize,
-        b'c' => u.currents[at] = (v as u16, 0),
-        b'C' => u.currents[at] = (0, v as u16),
-        b'i' => u.idles[at] = (v as u16, 0),
-        b'I' => u.idles[at] = (0, v as u16),
-        b't' => u.states[at] = v,
-        b'e' => u.epochs[at] = v as u16,
-        b'H' => u.homes[at] = v,
-        b'm' => u.marks[at] = v,
-        b'q' => u.ring[at].0 = v as u16,
-        b'Q' => u.ring[at].1 = v as u16,
-        _ => panic!("no field {what}"),
+    let (place, value) = store.strip_prefix("t.").and_then(|s| s.split_once('=')).expect("a store");
+    let (place, half) =
+        place.strip_prefix("small.").unwrap_or(place).split_once('.').unwrap_or((place.strip_prefix("small.").unwrap_or(place), ""));
+    let (field, at) = place.split_once('[').unwrap_or((place, "0]"));
+    let at: usize = at.strip_suffix(']').unwrap().parse().unwrap();
+    let halves = value.strip_prefix("TaskId::new(").and_then(|v| v.split_once(','));
+    let v: usize = if halves.is_some() { 0 } else { value.parse().unwrap() };
+    let id = |old: (u16, u16)| match (half, halves) {
+        ("slot", _) => (v as u16, old.1),
+        ("epoch", _) => (old.0, v as u16),
+        (_, Some((slot, epoch))) => (slot.parse().unwrap(), epoch.parse().unwrap()),
+        _ => panic!("no id in {store}"),
+    };
+    match field {
+        "n" => u.n = v,
+        "parked" => u.parked = v as u8,
+        "parked_id" => u.parked_id = id(u.parked_id),
+        "peak" => u.peak = v as u32,
+        "overwrites" => u.overwrites = v as u32,
+        "block_events" => u.block_events = v as u32,
+        "heads" => u.heads[at] = v,
+        "lens" => u.lens[at] = v,
+        "currents" => u.currents[at] = id(u.currents[at]),
+        "idles" => u.idles[at] = id(u.idles[at]),
+        "states" => u.states[at] = v as u8,
+        "epochs" => u.epochs[at] = v as u16,
+        "homes" => u.homes[at] = v as u8,
+        "marks" => u.marks[at] = v as u8,
+        "ring_slots" => u.ring[at].0 = v as u16,
+        "ring_epochs" => u.ring[at].1 = v as u16,
+        _ => panic!("no field {field}"),
     }
     u
 }
@@ -248,20 +266,20 @@ fn damaged() -> Vec<Line> {
         .map(|(at, args)| {
             let fresh = *at > DAMAGE.find("fn fresh_slots").unwrap();
             let base = match args[1].as_str() {
-                "twice" => set(&busy(), b'q', 5, 3),
+                "twice" => set(&busy(), "t.ring_slots[5]=3"),
                 "t" if fresh => Plain::fresh(4),
                 "t" => busy(),
                 other => panic!("a table {other}"),
             };
             assert!(base.sound(), "{args:?}: the table was not sound to begin with");
-            let number = |k: usize| args[k].parse::<u8>().unwrap();
-            let sound = set(&base, number(2), number(3) as usize, number(4)).sound();
+            let store = args[2..].join(",");
+            let sound = set(&base, store.strip_prefix("|t|").expect("a closure")).sound();
             let untouched = unseen.iter().any(|(a, _)| a == at);
             if untouched {
-                return format!("ours table untouched, {} {sound}", bytes(&args[0]));
+                return format!("ours table untouched, {} {sound}", args[0]);
             }
             assert!(!sound, "{args:?}: the table is sound");
-            let mut l = format!("ours table damaged, {} {sound}", bytes(&args[0]));
+            let mut l = format!("ours table damaged, {} {sound}", args[0]);
             unsound(&mut l, 26);
             l
         })
