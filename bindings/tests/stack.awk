@@ -77,11 +77,6 @@ FILENAME ~ /\.h$/ {
         gsub(/[^0-9]/, "", promised)
         promised += 0
     }
-    # but a call that is named takes more
-    if (match($0, /but [a-z0-9_]+ takes at most [0-9]+ bytes/)) {
-        split(substr($0, RSTART, RLENGTH), named, " ")
-        exception[named[2]] = named[6] + 0
-    }
     # A prototype may go over lines.
     if ($1 == "BREDUMALT_MUST_USE" && $2 != "static")
         text = ""
@@ -156,9 +151,8 @@ END {
             takes = frames + 128 + passed
             if (figures)
                 print takes, name, "frames", frames, "by value", passed
-            most = name in exception ? exception[name] : promised
-            if (takes > most)
-                fail(name " may take " takes " bytes, and " most " are promised")
+            if (takes > promised)
+                fail(name " may take " takes " bytes, and " promised " are promised")
         }
     if (!exported)
         fail("no exported call was read")
