@@ -174,7 +174,9 @@ pub fn arm_in(
     if MAX_TASK_IDS <= task.slot() {
         return Err(Refusal::BadTask);
     }
-    busy(waiters, cookie, task)?;
+    if let Err(why) = busy(waiters, cookie, task) {
+        return Err(why);
+    }
     let Some(i) = lowest_free(waiters) else {
         return Err(Refusal::Full);
     };

@@ -1,9 +1,9 @@
 -- The entries in memory against the deadlines on paper, and what the tests and the returns of the calls show.
-use Rattle.std.specs.Prelude.{Option, Some, None, ◌≡◌, Bool, true, false, not, cond, eqb, ltb, map, ℕ, ◌+◌, ◌-◌, ◌<◌, ◌≤◌, List, ◌∷◌, take}
+use Rattle.std.specs.Prelude.{Option, Some, None, ◌≡◌, Bool, true, false, not, cond, eqb, ltb, map, ℕ, ◌+◌, ◌-◌, ◌<◌, ◌≤◌, List, ◌∷◌}
 use Rattle.std.proofs.Common.{refl, sym, ◌∙◌, ap, drop, arith, length-drop, get_or-drop}
 use Rattle.std.specs.List.{list_any, Any, position, position_or_len}
 use Rattle.std.specs.Option.{option_or}
-use Rattle.std.proofs.lemmas.List.{take_all, get_or_default}
+use Rattle.std.proofs.lemmas.List.{get_or_default}
 use Rattle.std.proofs.lemmas.Bool.{ltb-true, ltb-false}
 use Rattle.std.proofs.lemmas.Option.{none-some}
 use Rattle.std.proofs.lemmas.List.Recursion.{is_position_or_len}
@@ -107,16 +107,13 @@ module _ (t : Table) where
 
   -- the entries after i
   abbrev pub later : ℕ → List Entry
-  later i = take (PLACES - (i + 1)) (drop (i + 1) t.entries)
-
-  later-all : (i : ℕ) → length t.entries ≡ PLACES → later i ≡ drop (i + 1) t.entries
-  later-all i n = take_all (PLACES - (i + 1)) (drop (i + 1) t.entries) (omega (arith, length-drop (i + 1) t.entries))
+  later i = drop (i + 1) t.entries
 
   later-at : (i k : ℕ) → length t.entries ≡ PLACES → get_or (later i) k empty ≡ get_or t.entries (i + 1 + k) empty
-  later-at i k n = rw (later-all i n) (get_or-drop (i + 1) t.entries k empty)
+  later-at i k n = get_or-drop (i + 1) t.entries k empty
 
   later-long : (i : ℕ) → length t.entries ≡ PLACES → length (later i) ≡ PLACES - (i + 1)
-  later-long i n = rw (later-all i n) (length-drop (i + 1) t.entries ∙ rw n)
+  later-long i n = length-drop (i + 1) t.entries ∙ rw n
 
   pub lone_live : (i : ℕ) → length t.entries ≡ PLACES → ((get_or t.entries i empty).live ≡ 0 → ⊥) → list_any (mate i) (later i) ≡ false → Lone i
   lone_live i n l h j ij jl e =
@@ -124,6 +121,10 @@ module _ (t : Table) where
       let at : i + 1 + k ≡ j = omega arith in
       let there : get_or (later i) k empty ≡ get_or t.entries j empty = later-at i k n ∙ ap (λ m. get_or t.entries m empty) at in
       not_both (list_any_at (mate i) (later i) k empty (omega (arith, later-long i n, view-long n)) (rw there (sym (pair i j l) ∙ e))) h
+
+  -- the same of the entries from a place on, however that place is spelled
+  pub lone_live_from : (i from : ℕ) → from ≡ i + 1 → length t.entries ≡ PLACES → ((get_or t.entries i empty).live ≡ 0 → ⊥) → list_any (mate i) (drop from t.entries) ≡ false → Lone i
+  lone_live_from i from at n l h = lone_live i n l (ap (λ k. list_any (mate i) (drop k t.entries)) (sym at) ∙ h)
 
   pub sound_yes : (i : ℕ) → length t.entries ≡ PLACES → Tested i → PLACES ≤ i → Tells true (Sound t)
   unfolding Distinct
@@ -142,6 +143,9 @@ module _ (t : Table) where
           let at : get_or t.entries (i + 1 + k) empty ≡ x = sym (later-at i k n) ∙ get_or_default (later i) k empty x kl ∙ is in
           tells_no
           (λ s. alike_found same_task (view t) i (i + 1 + k) (omega arith) (omega (arith, view-long n, later-long i n)) (pair i (i + 1 + k) l ∙ rw at h) s.plain.ids)
+
+  pub sound_no_from : (i from : ℕ) → from ≡ i + 1 → length t.entries ≡ PLACES → ((get_or t.entries i empty).live ≡ 0 → ⊥) → list_any (mate i) (drop from t.entries) ≡ true → Tells false (Sound t)
+  sound_no_from i from at n l h = sound_no i n l (ap (λ k. list_any (mate i) (drop k t.entries)) (sym at) ∙ h)
 
   pub flag_unknown : (i : ℕ) → FLAGS ≤ (get_or t.entries i empty).live → Tells false (Sound t)
   flag_unknown i h = tells_no (λ s. let known : (get_or t.entries i empty).live < FLAGS = each_at _ t.entries i empty (omega arith) s.flags in omega arith)

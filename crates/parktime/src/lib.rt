@@ -1,7 +1,7 @@
 // Deadlines of parked tasks: sixteen entries, which go in and come back as one value.
 #![tactic(auto)]
 
-ghost use Rattle.std.specs.Prelude.{◌≡◌, eqb};
+ghost use Rattle.std.specs.Prelude.{◌≡◌, eqb, drop};
 ghost use Rattle.std.specs.List.{list_any, position};
 ghost use Rattle.lists.specs.Tells.{Tells};
 ghost use Rattle.lists.specs.Entries.{free, taken};
@@ -53,11 +53,11 @@ impl Entry {
     }
 }
 
-// Whether one of these is a deadline of that task.
-fn any_for(entries: &[Entry], id: TaskId) -> bool
-    ensures { result ≡ list_any (λ e. taken (is_for id) (deadline_of e)) entries.now }
+// Whether one of these, from a place on, is a deadline of that task.
+fn any_for(entries: &[Entry; 16], from: usize, id: TaskId) -> bool
+    ensures { result ≡ list_any (λ e. taken (is_for id) (deadline_of e)) (drop from entries.now) }
 {
-    entries.iter().any(|e| e.is_for(id))
+    entries.iter().skip(from).any(|e| e.is_for(id))
 }
 
 impl Table {
@@ -85,7 +85,7 @@ impl Table {
             if 1 < e.live {
                 return false;
             }
-            if e.live != 0 && any_for(&self.entries[i + 1..], e.task) {
+            if e.live != 0 && any_for(&self.entries, i + 1, e.task) {
                 return false;
             }
         }

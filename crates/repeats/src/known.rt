@@ -169,11 +169,14 @@ pub extern "C" fn bredumalt_known_push(start: WakeQueue, token: u32, rounds: u32
     if !start.sound() {
         return 0;
     }
-    let mut q = start;
+    let WakeQueue {
+        mut ends,
+        mut tokens,
+    } = start;
     let mut sum = 0;
     for _ in 0..rounds {
-        sum = sums::added(sum, wake::push_in(&mut q.tokens, &mut q.ends, Token(token)));
-        sum = sums::added(sum, wake::pop_in(&mut q.tokens, &mut q.ends));
+        sum = sums::added(sum, wake::push_in(&mut tokens, &mut ends, Token(token)));
+        sum = sums::added(sum, wake::pop_in(&mut tokens, &mut ends));
     }
     sum
 }

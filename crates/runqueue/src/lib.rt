@@ -309,35 +309,62 @@ impl RunQueue {
     }
 
     // Puts a task at the tail.
-    pub fn enqueue(mut self, id: TaskId) -> Answered<RunQueue, ()>
+    pub fn enqueue(self, id: TaskId) -> Answered<RunQueue, ()>
         ensures { Meets ring self result.table (ack_reply result.answer) (enqueue_step (view self) id) }
     {
-        let answer = enqueue_at(&mut self.slots, &mut self.epochs, &mut self.span, id);
+        let RunQueue {
+            mut span,
+            mut slots,
+            mut epochs,
+        } = self;
+        let answer = enqueue_at(&mut slots, &mut epochs, &mut span, id);
         Answered {
-            table: self,
+            table: RunQueue {
+                span,
+                slots,
+                epochs,
+            },
             answer,
         }
     }
 
     // Takes the head.
-    pub fn dequeue(mut self) -> Answered<RunQueue, Option<TaskId>>
+    pub fn dequeue(self) -> Answered<RunQueue, Option<TaskId>>
         ensures { Meets ring self result.table (named_reply result.answer) (dequeue_step (view self)) }
     {
-        let answer = dequeue_at(&mut self.slots, &mut self.epochs, &mut self.span);
+        let RunQueue {
+            mut span,
+            mut slots,
+            mut epochs,
+        } = self;
+        let answer = dequeue_at(&mut slots, &mut epochs, &mut span);
         Answered {
-            table: self,
+            table: RunQueue {
+                span,
+                slots,
+                epochs,
+            },
             answer,
         }
     }
 
     // Puts the one that goes on to the tail, if any, and takes the head. Whether there is room is asked first, so a
     // full ring refuses although the head is about to leave.
-    pub fn after_yield(mut self, requeue: Option<TaskId>) -> Answered<RunQueue, Option<TaskId>>
+    pub fn after_yield(self, requeue: Option<TaskId>) -> Answered<RunQueue, Option<TaskId>>
         ensures { Meets ring self result.table (named_reply result.answer) (after_yield_step (view self) requeue) }
     {
-        let answer = after_yield_at(&mut self.slots, &mut self.epochs, &mut self.span, requeue);
+        let RunQueue {
+            mut span,
+            mut slots,
+            mut epochs,
+        } = self;
+        let answer = after_yield_at(&mut slots, &mut epochs, &mut span, requeue);
         Answered {
-            table: self,
+            table: RunQueue {
+                span,
+                slots,
+                epochs,
+            },
             answer,
         }
     }

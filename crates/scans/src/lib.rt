@@ -71,8 +71,8 @@ pub fn free_slot(states: &[u8; 64], n: usize, parked: u8, at: usize) -> Option<u
     empty_from(states, n, s + 1)
 }
 
-// How many of the first n slots are not Empty. The compiler counts several slots at once in this loop, but only one in an iterator's
-// `filter` and `count`.
+// How many of the first n slots are not Empty. The compiler counts several slots at once in this loop and the next, but only one in an
+// iterator's `filter` and `count`.
 pub fn occupied(states: &[u8; 64], n: usize) -> u32
     requires n_bound { n ≤ 64 }
     ensures { result ≡ occupied_in states.now n }
@@ -91,10 +91,13 @@ pub fn blocked(states: &[u8; 64], n: usize) -> u32
     requires n_bound { n ≤ 64 }
     ensures { result ≡ blocked_in states.now n }
 {
-    states[..n]
-        .iter()
-        .filter(|s| **s == memory::BLOCKED)
-        .count() as u32
+    let mut count = 0;
+    for s in &states[..n] {
+        if *s == memory::BLOCKED {
+            count += 1;
+        }
+    }
+    count
 }
 
 // The peak, once slots are occupied as they are now.

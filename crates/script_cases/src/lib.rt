@@ -3,18 +3,15 @@
 
 ghost use Rattle.std.specs.Prelude.{◌≡◌, ◌≤◌, ◌+◌, length, drop};
 
-use std::io;
-
 // Each line of a text after a bar.
-fn bars(rt: &impl Print, text: &[u8]) -> io::Result<()> {
+fn bars(rt: &impl Print, text: &[u8]) {
     let mut rest = text;
     while !rest.is_empty() {
         let e = words::until(rest, b'\n');
-        say::text(rt, b" | ")?;
-        say::text(rt, words::head(rest, e))?;
+        say::text(rt, b" | ");
+        say::text(rt, words::head(rest, e));
         rest = after(rest, e);
     }
-    Ok(())
 }
 
 // What stands after the byte at n, if there is such a byte.
@@ -27,10 +24,10 @@ fn after(l: &[u8], n: usize) -> &[u8]
 
 // What `events` does with a script, but for a buffer that has room for one line of output only: so each line of a script is a
 // piece of its own here, where `events` has thousands in one.
-fn line(rt: &impl Print, name: &[u8], input: &[u8]) -> io::Result<()> {
-    say::text(rt, b"script ")?;
-    say::text(rt, name)?;
-    say::text(rt, b" | events 1")?;
+fn line(rt: &impl Print, name: &[u8], input: &[u8]) {
+    say::text(rt, b"script ");
+    say::text(rt, name);
+    say::text(rt, b" | events 1");
     if place::too_long(input.len()) {
         return say::text(rt, b" | 0 13\n");
     }
@@ -38,42 +35,40 @@ fn line(rt: &impl Print, name: &[u8], input: &[u8]) -> io::Result<()> {
     let mut here = place::begin();
     while here.at < input.len() {
         script::chunk(input, &mut here, &mut out);
-        bars(rt, words::head(&out, here.used))?;
+        bars(rt, words::head(&out, here.used));
     }
     let last = place::finish(&mut out, &here);
-    bars(rt, words::head(&out, last))?;
+    bars(rt, words::head(&out, last));
     say::end(rt)
 }
 
 // A name, a colon and a script.
-fn named(rt: &impl Print, text: &[u8]) -> io::Result<()> {
+fn named(rt: &impl Print, text: &[u8]) {
     let e = words::until(text, b':');
     if e < text.len() {
-        line(rt, words::head(text, e), words::rest(text, e))?;
+        line(rt, words::head(text, e), words::rest(text, e));
     }
-    Ok(())
 }
 
 // Named scripts, a tilde after each. They stand in few byte strings, since each call costs the check half a second.
-fn scripts(rt: &impl Print, all: &[u8]) -> io::Result<()> {
+fn scripts(rt: &impl Print, all: &[u8]) {
     let mut rest = all;
     while !rest.is_empty() {
         let e = words::until(rest, b'~');
-        named(rt, words::head(rest, e))?;
+        named(rt, words::head(rest, e));
         rest = after(rest, e);
     }
-    Ok(())
 }
 
-pub fn every_group(rt: &impl Print) -> io::Result<()> {
-    reading(rt)?;
-    fields(rt)?;
-    tables(rt)?;
+pub fn every_group(rt: &impl Print) {
+    reading(rt);
+    fields(rt);
+    tables(rt);
     long(rt)
 }
 
 // How a script falls into lines, and a line into words.
-fn reading(rt: &impl Print) -> io::Result<()> {
+fn reading(rt: &impl Print) {
     // where a script and its lines end
     scripts(
         rt,
@@ -82,7 +77,7 @@ fn reading(rt: &impl Print) -> io::Result<()> {
         no last feed:start\nadmit 0~\
         empty lines:\n\nstart\n\n~\
         CR LF:start\r\nstart\nadmit 0\r\n\r\n~",
-    )?;
+    );
     // a line of 80 bytes is read, with or without its line feed, and one of 81 is not
     scripts(
         rt,
@@ -90,7 +85,7 @@ fn reading(rt: &impl Print) -> io::Result<()> {
         80 bytes at the end:pop\npush 000000000000000000000000000000000000000000000000000000000000000000000000007~\
         81 bytes:push 0000000000000000000000000000000000000000000000000000000000000000000000000007\npop\n~\
         81 bytes at the end:pop\npush 0000000000000000000000000000000000000000000000000000000000000000000000000007~",
-    )?;
+    );
     // words stand one space apart and are spelled just so
     scripts(
         rt,
@@ -98,7 +93,7 @@ fn reading(rt: &impl Print) -> io::Result<()> {
         bytes:\x00\n\xff\nstart\x00\n\xffstart\nst\x00art\nadmit \xff\nadmit 0\x00\nstart\n~\
         upper case:START\nStart\nstart\nadmit 0\nswitch 0 Yield\nmark 1/0 YES\nmark 1/0 yes\n~\
         near words:starts\nstar\nstart2\nstart1\nunir 1/0\nunirqs 1/0\nparks 1/0 1\npol 1\n~",
-    )?;
+    );
     // each command has its own number of words
     scripts(
         rt,
@@ -112,7 +107,7 @@ fn reading(rt: &impl Print) -> io::Result<()> {
 }
 
 // What stands in a field.
-fn fields(rt: &impl Print) -> io::Result<()> {
+fn fields(rt: &impl Print) {
     // numbers and ids that can be read, and that cannot
     scripts(
         rt,
@@ -121,7 +116,7 @@ fn fields(rt: &impl Print) -> io::Result<()> {
         not numbers:push -1\npush +1\npush 0x1\npush 1.\npush 1a\npush a\npush :\npush /\npush 1_0\npop\n~\
         not ids:start\nwake 0\nwake /\nwake 0/\nwake /0\nwake 0//0\nwake 0/0/0\nwake -0/0\nwake 0:0\nwake 0/0\n~\
         not kinds:start\nswitch 0 yields\nswitch 0 yiel\nswitch 0 0\nmark 0/0 y\nmark 0/0 true\nmark 0/0 no\n~",
-    )?;
+    );
     // each field's largest number, and one more
     scripts(
         rt,
@@ -136,7 +131,7 @@ fn fields(rt: &impl Print) -> io::Result<()> {
 }
 
 // What lines do to the tables.
-fn tables(rt: &impl Print) -> io::Result<()> {
+fn tables(rt: &impl Print) {
     // what a `new` leaves: everything where it is refused, nothing where it works
     scripts(
         rt,
@@ -145,7 +140,7 @@ fn tables(rt: &impl Print) -> io::Result<()> {
         new works:new 4\nstart\nadmit 0\nadmit 0\nirq 3 1/0\npark 1/0 5\npush 9\nnew 2\nsignal 3\ntake 1/0\npoll 5\n\
             pop\nadmit 0\n~\
         new and start:new 4\nstart\nstart1\nadmit 0\nadmit 1\nnew 3\nstart\nadmit 1\nswitch 1 yield\nadmit 0\nadmit 0\n~",
-    )?;
+    );
     // the refusals of the calls, and which comes first
     scripts(
         rt,
@@ -154,7 +149,7 @@ fn tables(rt: &impl Print) -> io::Result<()> {
         CPU off:start\nswitch 1 yield\nswitch 2 yield\nadmit 1\nswitch 1 yield\nstart1\nswitch 1 yield\nstart1\n~\
         irq:irq 1 2/0\nirq 1 3/0\nirq 2 2/0\nirq 3 64/0\nirq 3 3/0\nirq 4 4/0\nirq 5 5/0\nirq 6 6/0\nirq 7 7/0\n\
             irq 8 8/0\nirq 9 9/0\nirq 10 10/0\n~",
-    )?;
+    );
     // a script that shows the format, every command once, and the longest line of output
     scripts(
         rt,
@@ -168,7 +163,7 @@ fn tables(rt: &impl Print) -> io::Result<()> {
             park 65529/65535 0\npark 65530/65535 0\npark 65531/65535 0\npark 65532/65535 0\npark 65533/65535 0\n\
             park 65534/65535 0\npark 65535/65535 0\npoll 0\n~\
         release:new 4\nstart\nadmit 0\nadmit 0\nswitch 0 yield\nswitch 0 exit\nswitch 0 exit\ncollect\ncollect\n~",
-    )?;
+    );
     // the last line with 0 to 4 tasks, and with tasks that ended
     scripts(
         rt,
@@ -182,7 +177,7 @@ fn tables(rt: &impl Print) -> io::Result<()> {
 }
 
 // The longest input and one byte more. Its first three lines are thousands of bytes long, the last one is `pop`.
-fn long(rt: &impl Print) -> io::Result<()> {
+fn long(rt: &impl Print) {
     let mut input = [b'7'; 65537];
     input[20000] = b'\n';
     input[40000] = b'\n';
@@ -190,7 +185,7 @@ fn long(rt: &impl Print) -> io::Result<()> {
     input[65533] = b'p';
     input[65534] = b'o';
     input[65535] = b'p';
-    line(rt, b"65535 bytes", words::head(&input, 65535))?;
-    line(rt, b"65536 bytes", words::head(&input, 65536))?;
+    line(rt, b"65535 bytes", words::head(&input, 65535));
+    line(rt, b"65536 bytes", words::head(&input, 65536));
     line(rt, b"65537 bytes", &input)
 }

@@ -25,23 +25,27 @@ fn scan(t: &mut TasksMut, peer: usize) -> usize
     let idles = t.small.idles;
     let len = t.small.lens[peer];
     let mut head = t.small.heads[peer];
-    for j in 0..len {
+    let mut j = 0;
+    let found = loop {
+        if len <= j {
+            break j;
+        }
         let from = memory::spot(peer, n, head);
         let id = TaskId {
             slot: t.ring_slots[from],
             epoch: t.ring_epochs[from],
         };
         if scans::stealeable(t.epochs, t.marks, n, idles, id) {
-            t.small.heads[peer] = head;
-            return j;
+            break j;
         }
         let to = memory::spot(peer, n, head + len);
         t.ring_slots[to] = id.slot;
         t.ring_epochs[to] = id.epoch;
         head = runqueue::place(n, head + 1);
-    }
+        j += 1;
+    };
     t.small.heads[peer] = head;
-    len
+    found
 }
 
 // A CPU whose queue is empty takes what it may from its peer. Whether a task has moved.

@@ -187,23 +187,31 @@ impl WakeQueue {
     }
 
     // Puts a token behind the others; a queue that is full drops it and counts the drop.
-    pub fn push(mut self, token: Token) -> Answered<WakeQueue, bool>
+    pub fn push(self, token: Token) -> Answered<WakeQueue, bool>
         ensures { Meets wakes self result.table (told_reply result.answer) (push_step (view self) token.0) }
     {
-        let answer = push_at(&mut self.tokens, &mut self.ends, token);
+        let WakeQueue {
+            mut ends,
+            mut tokens,
+        } = self;
+        let answer = push_at(&mut tokens, &mut ends, token);
         Answered {
-            table: self,
+            table: WakeQueue { ends, tokens },
             answer,
         }
     }
 
     // Takes the oldest token.
-    pub fn pop(mut self) -> Answered<WakeQueue, Option<Token>>
+    pub fn pop(self) -> Answered<WakeQueue, Option<Token>>
         ensures { Meets wakes self result.table (popped_reply result.answer) (pop_step (view self)) }
     {
-        let answer = pop_at(&mut self.tokens, &mut self.ends);
+        let WakeQueue {
+            mut ends,
+            mut tokens,
+        } = self;
+        let answer = pop_at(&mut tokens, &mut ends);
         Answered {
-            table: self,
+            table: WakeQueue { ends, tokens },
             answer,
         }
     }

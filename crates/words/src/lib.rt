@@ -2,7 +2,7 @@
 #![tactic(auto)]
 
 ghost use Rattle.std.specs.Prelude.{◌≡◌, ◌≤◌, ◌<◌, ◌+◌, ◌-◌, length, take, drop};
-ghost use Rattle.text.specs.Text.{up_to, number as Text·number};
+ghost use Rattle.text.specs.Text.{up_to, is_digit, number as Text·number};
 ghost use Rattle.text.specs.Text.{same as Text·same};
 ghost use Rattle.words.specs.Words.{largest, both, read_id};
 
@@ -55,6 +55,13 @@ pub fn same(a: &[u8], b: &[u8]) -> bool
     a == b
 }
 
+// Whether a byte is a decimal digit.
+fn is_digit(d: u8) -> bool
+    ensures { result ≡ is_digit d }
+{
+    b'0' <= d && d <= b'9'
+}
+
 // The decimal number that w is, where it is at most max. The tests against max come before the sums, so that no sum can
 // be larger than max.
 pub fn number(w: &[u8], max: u64) -> Option<u64>
@@ -65,7 +72,7 @@ pub fn number(w: &[u8], max: u64) -> Option<u64>
     }
     let mut v = 0;
     for d in w {
-        if !d.is_ascii_digit() {
+        if !is_digit(*d) {
             return None;
         }
         let x = u64::from(d - b'0');

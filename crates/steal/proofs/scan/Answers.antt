@@ -5,6 +5,7 @@ use Rattle.steps.proofs.Scans.{turning_start, turning_test, turning_pass, turnin
 use Rattle.steps.proofs.Common.{has_room}
 use Rattle.memory.specs.Lent.{lent}
 use Rattle.memory.proofs.Lent.{there}
+use Rattle.steal.proofs.scan.Goals.{then-len-j, else-len-j+then-stealeable}
 use Rattle.steal.proofs.scan.Goals as goal
 
 pub loop-j-init : goal.loop-j-init
@@ -19,24 +20,11 @@ loop-j-preserved c =
     let h = c.loop-j.head in
     let j = c.loop-j.j in
     let room = has_room _ w c.requires.s_value c.args.peer hp in
-    let m = w.rep.most in
     let e = c.spot-from.ensures in
     let g = c.spot-to.ensures in (
       c.loop-j.invariant.0,
-      turning_pass _ c.args.peer w.rep hp u h j v c.loop-j-test.true _ _ _ _ room e.0 g.0 c.place-head.ensures.0 refl
-          (turning_test _ c.args.peer w.rep hp u h j v c.loop-j-test.true _ _ e.0 c.stealeable.ensures ∙ c.if-stealeable.false),
-    )
-
-pub returns-then-stealeable : goal.returns-then-stealeable
-returns-then-stealeable c =
-    let w = c.requires.sound in
-    let hp = c.requires.peer_bound in
-    let v = c.loop-j.invariant.1 in
-    let u = lent c.loop-j.t in
-    let h = c.loop-j.head in
-    let j = c.loop-j.j in (
-      c.loop-j.invariant.0,
-      turning_end _ c.args.peer w.rep hp u h j v _ refl (found_at _ c.args.peer w.rep hp u h j v c.loop-j-test.true (turning_test _ c.args.peer w.rep hp u h j v c.loop-j-test.true _ _ c.spot-from.ensures.0 c.stealeable.ensures ∙ c.if-stealeable.true)),
+      turning_pass _ c.args.peer w.rep hp u h j v (omega arith) _ _ _ _ room e.0 g.0 c.place-head.ensures.0 refl
+          (turning_test _ c.args.peer w.rep hp u h j v (omega arith) _ _ e.0 c.stealeable.ensures ∙ c.if-stealeable.false),
     )
 
 pub returns : goal.returns
@@ -48,5 +36,6 @@ returns c =
     let h = c.loop-j.head in
     let j = c.loop-j.j in (
       c.loop-j.invariant.0,
-      turning_end _ c.args.peer w.rep hp u h j v _ (omega arith) (found_none _ c.args.peer w.rep hp u h j v c.loop-j-test.false),
+      elim c.if-len-j.branch
+          [ then-len-j q ↦ turning_end _ c.args.peer w.rep hp u h j v _ q.found-is (found_none _ c.args.peer w.rep hp u h j v q.if-len-j.true) | else-len-j+then-stealeable q ↦ turning_end _ c.args.peer w.rep hp u h j v _ q.found-is (found_at _ c.args.peer w.rep hp u h j v q.if-len-j.false (turning_test _ c.args.peer w.rep hp u h j v q.if-len-j.false _ _ q.spot-from.ensures.0 q.stealeable.ensures ∙ q.if-stealeable.true)) ],
     )
