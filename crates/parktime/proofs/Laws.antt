@@ -115,16 +115,14 @@ module _ (t : Table) where
   later-long : (i : ℕ) → length t.entries ≡ PLACES → length (later i) ≡ PLACES - (i + 1)
   later-long i n = length-drop (i + 1) t.entries ∙ rw n
 
-  pub lone_live : (i : ℕ) → length t.entries ≡ PLACES → ((get_or t.entries i empty).live ≡ 0 → ⊥) → list_any (mate i) (later i) ≡ false → Lone i
-  lone_live i n l h j ij jl e =
+  -- the test of the entries from a place on, however the place after i is spelled
+  pub lone_live : (i from : ℕ) → from ≡ i + 1 → length t.entries ≡ PLACES → ((get_or t.entries i empty).live ≡ 0 → ⊥) → list_any (mate i) (drop from t.entries) ≡ false → Lone i
+  lone_live i from next n l h j ij jl e =
+      let none : list_any (mate i) (later i) ≡ false = ap (λ k. list_any (mate i) (drop k t.entries)) (sym next) ∙ h in
       let k : ℕ = j - (i + 1) in
       let at : i + 1 + k ≡ j = omega arith in
       let there : get_or (later i) k empty ≡ get_or t.entries j empty = later-at i k n ∙ ap (λ m. get_or t.entries m empty) at in
-      not_both (list_any_at (mate i) (later i) k empty (omega (arith, later-long i n, view-long n)) (rw there (sym (pair i j l) ∙ e))) h
-
-  -- the same of the entries from a place on, however that place is spelled
-  pub lone_live_from : (i from : ℕ) → from ≡ i + 1 → length t.entries ≡ PLACES → ((get_or t.entries i empty).live ≡ 0 → ⊥) → list_any (mate i) (drop from t.entries) ≡ false → Lone i
-  lone_live_from i from at n l h = lone_live i n l (ap (λ k. list_any (mate i) (drop k t.entries)) (sym at) ∙ h)
+      not_both (list_any_at (mate i) (later i) k empty (omega (arith, later-long i n, view-long n)) (rw there (sym (pair i j l) ∙ e))) none
 
   pub sound_yes : (i : ℕ) → length t.entries ≡ PLACES → Tested i → PLACES ≤ i → Tells true (Sound t)
   unfolding Distinct
@@ -135,17 +133,15 @@ module _ (t : Table) where
         flags = each_seen _ t.entries i empty (omega arith) d.flags;
       })
 
-  pub sound_no : (i : ℕ) → length t.entries ≡ PLACES → ((get_or t.entries i empty).live ≡ 0 → ⊥) → list_any (mate i) (later i) ≡ true → Tells false (Sound t)
-  sound_no i n l h = go (Any-from_list_any (mate i) (later i) h)
+  pub sound_no : (i from : ℕ) → from ≡ i + 1 → length t.entries ≡ PLACES → ((get_or t.entries i empty).live ≡ 0 → ⊥) → list_any (mate i) (drop from t.entries) ≡ true → Tells false (Sound t)
+  sound_no i from next n l h =
+      go (Any-from_list_any (mate i) (later i) (ap (λ k. list_any (mate i) (drop k t.entries)) (sym next) ∙ h))
     where
       go : Any (λ e. mate i e ≡ true) (later i) → Tells false (Sound t)
       go (k, x, kl, is, h) =
           let at : get_or t.entries (i + 1 + k) empty ≡ x = sym (later-at i k n) ∙ get_or_default (later i) k empty x kl ∙ is in
           tells_no
           (λ s. alike_found same_task (view t) i (i + 1 + k) (omega arith) (omega (arith, view-long n, later-long i n)) (pair i (i + 1 + k) l ∙ rw at h) s.plain.ids)
-
-  pub sound_no_from : (i from : ℕ) → from ≡ i + 1 → length t.entries ≡ PLACES → ((get_or t.entries i empty).live ≡ 0 → ⊥) → list_any (mate i) (drop from t.entries) ≡ true → Tells false (Sound t)
-  sound_no_from i from at n l h = sound_no i n l (ap (λ k. list_any (mate i) (drop k t.entries)) (sym at) ∙ h)
 
   pub flag_unknown : (i : ℕ) → FLAGS ≤ (get_or t.entries i empty).live → Tells false (Sound t)
   flag_unknown i h = tells_no (λ s. let known : (get_or t.entries i empty).live < FLAGS = each_at _ t.entries i empty (omega arith) s.flags in omega arith)
