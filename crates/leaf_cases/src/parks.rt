@@ -1,20 +1,20 @@
 // The deadlines at their edges.
 use ids::{TaskId, Token};
 use parktime::{Entry, Table};
-use say::Say;
+use say::lossy::{self, Say};
 
 fn arm(rt: &impl Print, t: Table, slot: u16, epoch: u16, deadline: u64) -> Table {
-    say::answered(rt, t.arm(TaskId::new(slot, epoch), deadline))
+    lossy::answered(rt, t.arm(TaskId::new(slot, epoch), deadline))
 }
 
 fn disarm(rt: &impl Print, t: Table, slot: u16, epoch: u16) -> Table {
-    say::answered(rt, t.disarm(TaskId::new(slot, epoch)))
+    lossy::answered(rt, t.disarm(TaskId::new(slot, epoch)))
 }
 
 // The count, and then the first three places of an output of seventeen.
 fn poll(rt: &impl Print, t: Table, now: u64) -> Table {
     let mut out = [9; 17];
-    let t = say::answered(rt, t.poll(now, &mut out));
+    let t = lossy::answered(rt, t.poll(now, &mut out));
     for raw in &out[..3] {
         TaskId::from_raw(Token(*raw)).say(rt);
     }
@@ -67,7 +67,7 @@ pub fn filling(rt: &impl Print) {
 // The count, and then the first and the last place of an output of fifteen.
 fn polled_15(rt: &impl Print, t: Table) -> Table {
     let mut out = [9; 15];
-    let t = say::answered(rt, t.poll(100, &mut out));
+    let t = lossy::answered(rt, t.poll(100, &mut out));
     Token(out[0]).say(rt);
     Token(out[14]).say(rt);
     t
@@ -75,7 +75,7 @@ fn polled_15(rt: &impl Print, t: Table) -> Table {
 
 fn polled_16(rt: &impl Print, t: Table) -> Table {
     let mut out = [9; 16];
-    let t = say::answered(rt, t.poll(100, &mut out));
+    let t = lossy::answered(rt, t.poll(100, &mut out));
     Token(out[0]).say(rt);
     Token(out[1]).say(rt);
     Token(out[15]).say(rt);

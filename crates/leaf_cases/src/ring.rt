@@ -1,7 +1,7 @@
 // Ids and the ring at their edges.
 use ids::{TaskId, Token};
 use runqueue::{RunQueue, Span};
-use say::Say;
+use say::lossy::{self, Say};
 
 // Both ways at both ends of the range.
 pub fn packing(rt: &impl Print) {
@@ -21,15 +21,15 @@ pub fn packing(rt: &impl Print) {
 }
 
 fn put(rt: &impl Print, q: RunQueue, slot: u16, epoch: u16) -> RunQueue {
-    say::answered(rt, q.enqueue(TaskId::new(slot, epoch)))
+    lossy::answered(rt, q.enqueue(TaskId::new(slot, epoch)))
 }
 
 fn take(rt: &impl Print, q: RunQueue) -> RunQueue {
-    say::answered(rt, q.dequeue())
+    lossy::answered(rt, q.dequeue())
 }
 
 fn onward(rt: &impl Print, q: RunQueue, who: Option<TaskId>) -> RunQueue {
-    say::answered(rt, q.after_yield(who))
+    lossy::answered(rt, q.after_yield(who))
 }
 
 fn tests(rt: &impl Print, q: RunQueue) {
@@ -114,7 +114,7 @@ pub fn of_64(rt: &impl Print) {
 pub fn sizes(rt: &impl Print) {
     say::text(rt, b"ours ring sizes");
     for n in [0, 1, 64, 65, usize::MAX] {
-        let q = say::answered(rt, RunQueue::new(n));
+        let q = lossy::answered(rt, RunQueue::new(n));
         tests(rt, q);
     }
     say::end(rt)

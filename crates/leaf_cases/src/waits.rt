@@ -1,22 +1,22 @@
 // The wait table at its edges.
 use ids::TaskId;
 use irqwait::{Cookie, WaitTable, Waiter};
-use say::Say;
+use say::lossy::{self, Say};
 
 fn arm(rt: &impl Print, t: WaitTable, cookie: u32, slot: u16, epoch: u16) -> WaitTable {
-    say::answered(rt, t.arm(Cookie(cookie), TaskId::new(slot, epoch)))
+    lossy::answered(rt, t.arm(Cookie(cookie), TaskId::new(slot, epoch)))
 }
 
 fn disarm(rt: &impl Print, t: WaitTable, slot: u16, epoch: u16) -> WaitTable {
-    say::answered(rt, t.disarm_task(TaskId::new(slot, epoch)))
+    lossy::answered(rt, t.disarm_task(TaskId::new(slot, epoch)))
 }
 
 fn signal(rt: &impl Print, t: WaitTable, cookie: u32) -> WaitTable {
-    say::answered(rt, t.signal(Cookie(cookie)))
+    lossy::answered(rt, t.signal(Cookie(cookie)))
 }
 
 fn take(rt: &impl Print, t: WaitTable, slot: u16, epoch: u16) -> WaitTable {
-    say::answered(rt, t.take_pending(TaskId::new(slot, epoch)))
+    lossy::answered(rt, t.take_pending(TaskId::new(slot, epoch)))
 }
 
 fn pending(rt: &impl Print, t: WaitTable, slot: u16, epoch: u16) {

@@ -1,14 +1,14 @@
 // The wake queue at its edges.
 use ids::Token;
-use say::Say;
+use say::lossy::{self, Say};
 use wake::{Ends, WakeQueue};
 
 fn push(rt: &impl Print, q: WakeQueue, token: u32) -> WakeQueue {
-    say::answered(rt, q.push(Token(token)))
+    lossy::answered(rt, q.push(Token(token)))
 }
 
 fn pop(rt: &impl Print, q: WakeQueue) -> WakeQueue {
-    say::answered(rt, q.pop())
+    lossy::answered(rt, q.pop())
 }
 
 // A queue of c, of which c - 1 can be held: empty, one short, full, over, wrapped, empty again.

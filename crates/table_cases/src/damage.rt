@@ -3,12 +3,12 @@ use crate::table;
 use answers::Answered;
 use ids::TaskId;
 use memory::Tasks;
-use say::Say;
+use say::lossy::{self, Say};
 use switch::Kind;
 
 // Says what a call answers, and more if its table does not come back as it was.
 fn kept<A: Say>(rt: &impl Print, t: Tasks, done: Answered<Tasks, A>) {
-    let back = say::answered(rt, done);
+    let back = lossy::answered(rt, done);
     if back != t {
         say::text(rt, b" changed");
     }

@@ -2,7 +2,7 @@
 use answers::Refusal;
 use ids::TaskId;
 use memory::Tasks;
-use say::Say;
+use say::lossy::{self, Say};
 use switch::{Decision, Kind};
 
 // A line: its name, the size of the fresh table, and the script.
@@ -123,16 +123,16 @@ fn kind(k: u8) -> Kind {
 fn change(rt: &impl Print, t: Tasks, op: u8, a: u8, b: u8, c: u8) -> Tasks {
     let id = TaskId::new(u16::from(a), u16::from(b));
     match op {
-        b's' => say::answered(rt, tasks::start(t)),
-        b'S' => say::answered(rt, tasks::start_cpu1(t)),
-        b'a' => say::answered(rt, tasks::admit_on(t, a)),
-        b'A' => say::answered(rt, tasks::admit(t)),
-        b'x' => say::answered(rt, tasks::switch_on(t, a, kind(b))),
-        b'w' => say::answered(rt, tasks::switch(t, kind(a))),
-        b'm' => say::answered(rt, tasks::set_stealeable(t, id, c == 1)),
-        b't' => say::answered(rt, tasks::try_steal_into(t, a)),
-        b'k' => say::answered(rt, tasks::wake(t, id)),
-        b'c' => say::answered(rt, tasks::collect(t)),
+        b's' => lossy::answered(rt, tasks::start(t)),
+        b'S' => lossy::answered(rt, tasks::start_cpu1(t)),
+        b'a' => lossy::answered(rt, tasks::admit_on(t, a)),
+        b'A' => lossy::answered(rt, tasks::admit(t)),
+        b'x' => lossy::answered(rt, tasks::switch_on(t, a, kind(b))),
+        b'w' => lossy::answered(rt, tasks::switch(t, kind(a))),
+        b'm' => lossy::answered(rt, tasks::set_stealeable(t, id, c == 1)),
+        b't' => lossy::answered(rt, tasks::try_steal_into(t, a)),
+        b'k' => lossy::answered(rt, tasks::wake(t, id)),
+        b'c' => lossy::answered(rt, tasks::collect(t)),
         _ => t,
     }
 }
@@ -219,7 +219,7 @@ pub fn refusals(rt: &impl Print) {
     lines(rt, &REFUSALS);
     say::text(rt, b"ours table sizes");
     for n in [0, 1, 64, 65, usize::MAX] {
-        let t = say::answered(rt, Tasks::new(n));
+        let t = lossy::answered(rt, Tasks::new(n));
         t.small.n.say(rt);
     }
     say::end(rt)
