@@ -1,5 +1,5 @@
 // What the calls answer, in writing: each answer after a space, a refusal by its number. `Say` and `answered` tell a caller of a write
-// that failed, and try none after it; `lossy`, `text` and `end` let it go.
+// that failed, and make none after it; `lossy`, `text` and `end` let it go.
 #![tactic(auto)]
 
 use answers::{Answered, Refusal, State};
@@ -112,6 +112,7 @@ pub fn answered<T: Drop, A: Say>(rt: &impl Print, done: Answered<T, A>) -> io::R
     Ok(done.table)
 }
 
+// Here a failed write is let go; `rt.write_all(s)` itself tells of it, and so does `println!(rt)` for `end`.
 pub fn text(rt: &impl Print, s: &[u8]) {
     let _written = rt.write_all(s);
 }

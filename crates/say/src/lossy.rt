@@ -1,5 +1,5 @@
-// The same text, for output that is held whole to a stored one: a write that fails is let go, and what comes after it is tried all the
-// same.
+// The same in writing, for output that is compared as a whole with a stored one: a write that fails is let go, and what comes after it
+// is written all the same.
 use crate::text;
 use answers::{Answered, Refusal, State};
 use ids::{TaskId, Token};

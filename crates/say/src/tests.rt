@@ -1,5 +1,5 @@
 // What no clause can say: the text of each answer, and what becomes of a write that fails.
-use super::{Say, answered, lossy};
+use super::{Say, answered, end, lossy, text};
 use answers::{Answered, Refusal, State};
 use ids::{TaskId, Token};
 use std::alloc::Global;
@@ -41,6 +41,10 @@ impl Paper {
     fn says(&self, s: &str) -> io::Result<bool> {
         Ok(self.text.try_borrow()?.as_str() == s)
     }
+
+    fn begins(&self, s: &str) -> io::Result<bool> {
+        Ok(s.starts_with(self.text.try_borrow()?.as_str()))
+    }
 }
 
 impl Print for Paper {
@@ -62,8 +66,8 @@ impl Print for Paper {
     }
 }
 
-// Whether both forms write this of an answer; and whether, with each of its writes failing in turn, `Say` tells of that and tries no
-// other, while the lossy form makes them all.
+// Whether both forms write this of an answer; and whether, with each of its writes failing in turn, `Say` tells of that, after what
+// comes before it and with nothing after it, while the lossy form makes every write.
 fn writes<A: Say + lossy::Say + Copy>(alloc: Global, a: A, want: &str) -> io::Result<bool> {
     let told = Paper::new(alloc, None);
     Say::say(a, &told)?;
@@ -73,7 +77,7 @@ fn writes<A: Say + lossy::Say + Copy>(alloc: Global, a: A, want: &str) -> io::Re
     let mut holds = all != 0 && told.says(want)? && let_go.says(want)?;
     for at in 0..all {
         let told = Paper::new(alloc, Some(at));
-        holds &= is_broken(Say::say(a, &told)) && told.tried.get() == at + 1;
+        holds &= is_broken(Say::say(a, &told)) && told.tried.get() == at + 1 && told.begins(want)?;
         let let_go = Paper::new(alloc, Some(at));
         lossy::Say::say(a, &let_go);
         holds &= let_go.tried.get() == all;
@@ -98,7 +102,7 @@ fn answers_are_written(rt: HostRuntime) -> Result<(), Fail> {
     assert!(rt; writes(a, 65535u16, " 65535")?);
     assert!(rt; writes(a, 7u32, " 7")?);
     assert!(rt; writes(a, u64::MAX, " 18446744073709551615")?);
-    assert!(rt; writes(a, 0usize, " 0")?);
+    assert!(rt; writes(a, 64usize, " 64")?);
     assert!(rt; writes(a, (), " ok")?);
     assert!(rt; writes(a, FROM, " 2/9")?);
     assert!(rt; writes(a, Token(131081), " 131081")?);
@@ -107,21 +111,23 @@ fn answers_are_written(rt: HostRuntime) -> Result<(), Fail> {
     assert!(rt; writes(a, State::Running, " Running")?);
     assert!(rt; writes(a, State::Blocked, " Blocked")?);
     assert!(rt; writes(a, Decision::Stay, " stay")?);
-    let release = Some(FROM);
-    let switch = Decision::Switch {
-        from: FROM,
-        to: TO,
-        release,
-    };
-    assert!(rt; writes(a, switch, " 2/9 0/0 2/9")?);
+    for (release, want) in [(Some(FROM), " 2/9 0/0 2/9"), (None, " 2/9 0/0 -")] {
+        let switch = Decision::Switch {
+            from: FROM,
+            to: TO,
+            release,
+        };
+        assert!(rt; writes(a, switch, want)?);
+    }
     assert!(rt; writes(a, None::<TaskId>, " -")?);
     assert!(rt; writes(a, Ok::<Option<Token>, Refusal>(Some(Token(1))), " 1")?);
-    assert!(rt; writes(a, Err::<(), Refusal>(Refusal::BadLine), " !12")?);
+    assert!(rt; writes(a, Err::<(), Refusal>(Refusal::BadTable), " !1")?);
+    assert!(rt; writes(a, Err::<(), Refusal>(Refusal::TooLong), " !13")?);
     Ok(())
 }
 
-// The three writes of a switch, each failing in turn: `answered` tells of it, tries no other and hands no table on; the lossy one
-// tries all three and hands the table on.
+// Each of the three writes of a switch failing in turn: `answered` tells of it, makes none after it and hands no table on; the lossy one
+// makes all three and hands the table on.
 #[test]
 fn failed_writes(rt: HostRuntime) -> Result<(), Fail> {
     for at in 0..3u32 {
@@ -144,8 +150,20 @@ fn failed_writes(rt: HostRuntime) -> Result<(), Fail> {
         assert_eq!(rt; paper.tried.get(), 3, "at {at}");
     }
     let answer = Ok::<(), Refusal>(());
-    let paper = Paper::new(rt.alloc(), Some(1));
+    let paper = Paper::new(rt.alloc(), None);
     assert_eq!(rt; answered(&paper, Answered { table: 7u8, answer })?, 7);
     assert!(rt; paper.says(" ok")?);
+    Ok(())
+}
+
+// `text` and `end` write, and let a failed write go.
+#[test]
+fn texts(rt: HostRuntime) -> Result<(), Fail> {
+    for (fails, want) in [(None, "a\n"), (Some(0), "\n"), (Some(1), "a")] {
+        let paper = Paper::new(rt.alloc(), fails);
+        text(&paper, b"a");
+        end(&paper);
+        assert!(rt; paper.says(want)?, "{want}");
+    }
     Ok(())
 }
