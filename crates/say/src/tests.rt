@@ -98,11 +98,11 @@ fn answers_are_written(rt: HostRuntime) -> Result<(), Fail> {
     let a = rt.alloc();
     assert!(rt; writes(a, true, " true")?);
     assert!(rt; writes(a, false, " false")?);
-    assert!(rt; writes(a, 255u8, " 255")?);
-    assert!(rt; writes(a, 65535u16, " 65535")?);
-    assert!(rt; writes(a, 7u32, " 7")?);
-    assert!(rt; writes(a, u64::MAX, " 18446744073709551615")?);
-    assert!(rt; writes(a, 64usize, " 64")?);
+    assert!(rt; writes(a, 0u8, " 0")? && writes(a, u8::MAX, " 255")?);
+    assert!(rt; writes(a, 0u16, " 0")? && writes(a, u16::MAX, " 65535")?);
+    assert!(rt; writes(a, 0u32, " 0")? && writes(a, u32::MAX, " 4294967295")?);
+    assert!(rt; writes(a, 0u64, " 0")? && writes(a, u64::MAX, " 18446744073709551615")?);
+    assert!(rt; writes(a, 0usize, " 0")? && writes(a, usize::MAX, " 18446744073709551615")?);
     assert!(rt; writes(a, (), " ok")?);
     assert!(rt; writes(a, FROM, " 2/9")?);
     assert!(rt; writes(a, Token(131081), " 131081")?);
